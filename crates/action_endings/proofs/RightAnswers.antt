@@ -15,7 +15,7 @@ use Rattle.place_plan.specs.Plans.Closed.{IsClosed}
 use Rattle.place_plan.specs.Plans.Places.{around, roles_of, objects_of, interface_of}
 use Rattle.place_plan.specs.RulesOfJournals.Raising.{is_raised, is_doomed}
 use Rattle.place_plan.specs.RulesOfJournals.Objects.{is_tried, next_restore}
-use Rattle.place_plan.specs.RulesOfJournals.Roles.{has_given, all_have_given, has_aborted, all_have_aborted, verdict_of, is_undo, signal_in, wants_undo}
+use Rattle.place_plan.specs.RulesOfJournals.Roles.{has_given, all_have_given, has_aborted, verdict_of, is_undo, signal_in, wants_undo}
 use Rattle.place_plan.proofs.OnPlans.SmallParts.{objects_rise}
 use Rattle.action_endings.specs.declared.ending.Ending.{Ending}
 use Rattle.action_endings.specs.inner.KeptEndings.{at, SignalsBelow, verdict_kept, name_in, name_kept, tried_kept, doomed_kept, asks_for_undo, KeepsVerdicts, KeepsRest, StandsFor}
@@ -131,11 +131,6 @@ pub name_right : (plan : Plan) (past : List Entry) (p t : ℕ) (row : Ending) �
 name_right plan past p t row k h =
     let found = newest_there (is_by kind.Abort p t) past h in
     sym (ap name_in found.1 ∙ k.named t found.0 found.1)
-
-pub all_aborted_right : (plan : Plan) (past : List Entry) (endings : List Ending) (p : ℕ) → StandsFor plan past endings
-    → list_all (has_bit (at endings p).aborted) (roles_of plan p) ≡ all_have_aborted plan past p
-all_aborted_right plan past endings p s =
-    all_same (has_bit (at endings p).aborted) (has_aborted past p) (roles_of plan p) (s.rest p).aborted
 
 pub next_right : (plan : Plan) → IsClosed plan → (past : List Entry) (endings : List Ending) (p : ℕ) → StandsFor plan past endings
     → slice_get (objects_of plan p) (tried_kept plan p (at endings p)) ≡ next_restore plan past p

@@ -1,5 +1,4 @@
 ghost use Rattle.std.specs.Prelude.{◌≡◌, ◌==◌, ◌<◌, ◌≤◌, ◌||◌, ◌∷◌, [], ℕ, List, length, slice_get, slice_set, true, false, not, Some, IfOk, IfSome};
-ghost use Rattle.std.specs.List.{list_all};
 ghost use Rattle.cover_table.specs.Cover.{has_bit};
 ghost use Rattle.core_words.specs.Joining.{as_list, IsCoverOf};
 ghost use Rattle.caa_base.specs.Written.Limits.{most_objects, most_roles};
@@ -12,7 +11,7 @@ ghost use Rattle.place_plan.specs.RulesOfJournals.Entries.{has, is_by, newest};
 ghost use Rattle.place_plan.specs.RulesOfJournals.Whereabouts.{is_undoing};
 ghost use Rattle.place_plan.specs.RulesOfJournals.Raising.{is_doomed, is_raised};
 ghost use Rattle.place_plan.specs.RulesOfJournals.Objects.{has_failed, next_restore};
-ghost use Rattle.place_plan.specs.RulesOfJournals.Roles.{all_have_aborted, all_have_given, has_aborted, has_given, is_undo, signal_in, signals, wants_undo};
+ghost use Rattle.place_plan.specs.RulesOfJournals.Roles.{all_have_given, has_aborted, has_given, is_undo, signal_in, signals, wants_undo};
 ghost use Rattle.action_endings.specs.inner.KeptEndings.{at, role_number, SignalsBelow, doomed_kept, name_in, name_kept, tried_kept, unsaid, StandsFor, StandsBut};
 ghost use Rattle.action_endings.specs.inner.ChangedEndings.{ChangesAt, Gives, GivesUp, MaySay, marked, cleared, turned_back, tried_once_more, RaisesFirst, NoneCounts, Says, Aborts, TurnsBack, Restores, given_by, given_kept, signals_kept, AreKnown, agreed_outcome, IsReady, Concludes, SaysOutcome, IsRightEnd};
 
@@ -22,7 +21,7 @@ use caa_base::written::entry::{
     Exception, Object, OutOfMemory, Outcome, Participant, Place, Verdict,
 };
 use caa_base::written::limits::MOST_ROLES;
-use core_words::crew::{are_in, is_in, with};
+use core_words::crew::{is_in, with};
 use core_words::joining::joined;
 use place_plan::plans::plan::Plan;
 use std::alloc::Global;
@@ -243,14 +242,6 @@ impl Endings {
         self.verdict_given(plan, place, by)
     }
 
-    /// Whether each role of a place has a verdict that counts.
-    pub fn all_given(&self, plan: &Plan, place: Place) -> bool
-        ensures kept { result ≡ list_all (has_bit (at self.now place).given) (roles_of plan.now place) }
-        ensures stands { (past : List EntryValue) → StandsFor plan.now past self.now → result ≡ all_have_given plan.now past place }
-    {
-        are_in(self.row(place).given, plan.roles_of(place))
-    }
-
     /// Whether a verdict that counts in a place is undo.
     #[inline(always)]
     pub fn wants_undo(&self, place: Place) -> bool
@@ -308,14 +299,6 @@ impl Endings {
     {
         plan.is_closed();
         is_in(self.row(place).aborted, by)
-    }
-
-    /// Whether each role of a place has given up.
-    pub fn all_aborted(&self, plan: &Plan, place: Place) -> bool
-        ensures kept { result ≡ list_all (has_bit (at self.now place).aborted) (roles_of plan.now place) }
-        ensures stands { (past : List EntryValue) → StandsFor plan.now past self.now → result ≡ all_have_aborted plan.now past place }
-    {
-        are_in(self.row(place).aborted, plan.roles_of(place))
     }
 
     /// Whether some role of a place has given up.

@@ -1,4 +1,4 @@
--- Whatever a call comes to, its device calls its objects what it called them.
+-- Whatever a call comes to, its device is one that was made with the same.
 use Rattle.std.proofs.Common.{◌≡◌, ◌⊎◌, ℕ, List, inl, inr}
 use Rattle.place_plan.specs.Plans.PlanValue.{Plan}
 use Rattle.caa_commands.specs.declared.command.Command.{Command}
@@ -10,18 +10,18 @@ use Rattle.caa_commands.specs.OutsideUse.{SinkUse, Left, Call}
 use Rattle.caa_commands.specs.Calls.{CheckComesTo, Prints, DoesNotBegin, AuditComesTo, PlanComesTo, IsNotServed, InputComesTo, IsWorked, IsNotWorked, CellComesTo, CameTo, Answers, with_journal}
 use Rattle.caa_commands.specs.Logging.{LogAnswers}
 
--- the device has the names that it had
+-- the device was made with what it was made with before
 abbrev pub KeepsNames : {P : Type 0} → Left P → Type 0
-KeepsNames left = left.plant.labels ≡ left.plant.labels_before
+KeepsNames left = left.plant.constants ≡ left.plant.constants_before
 
--- a device that is as it was has the names that it had
+-- a device that is as it was was made with the same
 abbrev pub IsSteady : {P : Type 0} → Left P → Type 0
 IsSteady left = left.plant.after ≡ left.plant.before → KeepsNames left
 
 module _ {P : Type 0} (left : Left P) (steady : IsSteady left) where
   unbegun : (plan : Plan) (found : Finding) → DoesNotBegin plan found left → KeepsNames left
-  unbegun plan finding.PlantFault h = h.1.tells.labels
-  unbegun plan finding.OutOfMemory h = h.1.tells.labels
+  unbegun plan finding.PlantFault h = h.1.tells.constants
+  unbegun plan finding.OutOfMemory h = h.1.tells.constants
   unbegun plan _ h = absurd h
 
   checked : (plan : Plan) (found : Finding) → CheckComesTo plan found left → KeepsNames left
@@ -42,14 +42,14 @@ module _ {P : Type 0} (left : Left P) (steady : IsSteady left) where
 
   pub by_plan : (c : Command) (plan : Plan) (bytes : List ℕ) (found : Finding) → PlanComesTo c plan bytes found left → KeepsNames left
   by_plan command.Check plan bytes found h = checked plan found h
-  by_plan (command.Sim seed) plan bytes found (inl h) = h.0.played.tells.labels
+  by_plan (command.Sim seed) plan bytes found (inl h) = h.0.played.tells.constants
   by_plan (command.Sim seed) plan bytes found (inr h) = unbegun plan found h
-  by_plan command.Run plan bytes found (inl h) = h.played.tells.labels
+  by_plan command.Run plan bytes found (inl h) = h.played.tells.constants
   by_plan command.Run plan bytes found (inr h) = unbegun plan found h
   by_plan command.Audit plan bytes found h = audited plan bytes found h
   by_plan (command.Graph most) plan bytes found h = absurd h
   by_plan (command.Messages seed) plan bytes found h = printed _ found h
-  by_plan (command.Pool workers) plan bytes found (inl h) = h.played.tells.labels
+  by_plan (command.Pool workers) plan bytes found (inl h) = h.played.tells.constants
   by_plan (command.Pool workers) plan bytes found (inr h) = unbegun plan found h
   by_plan (command.Cell cycles) plan bytes found h = absurd h
 
@@ -64,7 +64,7 @@ module _ {P : Type 0} (left : Left P) (steady : IsSteady left) where
   by_input c bytes found (inr (inr h)) = printed _ found h.prints
 
   by_cell : (cycles : ℕ) (plan : Plan) (found : Finding) → CellComesTo plan cycles found left → KeepsNames left
-  by_cell cycles plan found (inl h) = h.0.played.tells.labels
+  by_cell cycles plan found (inl h) = h.0.played.tells.constants
   by_cell cycles plan found (inr h) = unbegun plan found h
 
   worked : (cycles : ℕ) (found : Finding) → IsWorked cycles found left ⊎ IsNotWorked found left → KeepsNames left

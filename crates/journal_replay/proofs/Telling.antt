@@ -15,11 +15,11 @@ try_tells (Some d) o = refl
 pub ruleset goes_on_telling = (put_tells, try_tells)
 
 -- a base by its parts
-pub base_same : (history history' : Option (List Asked)) (labels labels' : List (List ℕ)) (faults lays lays' : ℕ)
+pub base_same : (history history' : Option (List Asked)) (constants constants' : List (List ℕ)) (faults lays lays' : ℕ)
     (values values' drills drills' : Bool)
-    → history ≡ history' → labels ≡ labels' → lays ≡ lays' → values ≡ values' → drills ≡ drills'
+    → history ≡ history' → constants ≡ constants' → lays ≡ lays' → values ≡ values' → drills ≡ drills'
     → ◌≡◌ {A = Base}
-    (record { history = history; labels = labels; faults = faults; lay_faults = lays; tells_values = values; tells_drills = drills })
-    (record { history = history'; labels = labels'; faults = faults; lay_faults = lays'; tells_values = values'; tells_drills = drills' })
-base_same history history' labels labels' faults lays lays' values values' drills drills' h n l v d =
-    (λ i. record { history = h i; labels = n i; faults = faults; lay_faults = l i; tells_values = v i; tells_drills = d i })
+    (record { history = history; constants = constants; faults = faults; lay_faults = lays; tells_values = values; tells_drills = drills })
+    (record { history = history'; constants = constants'; faults = faults; lay_faults = lays'; tells_values = values'; tells_drills = drills' })
+base_same history history' constants constants' faults lays lays' values values' drills drills' h n l v d =
+    (λ i. record { history = h i; constants = n i; faults = faults; lay_faults = l i; tells_values = v i; tells_drills = d i })

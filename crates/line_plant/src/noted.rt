@@ -161,7 +161,7 @@ impl<S: Source, K: Sink, W: Write> Plant for Noted<'_, S, K, W> {
 
     ghost objects = { λ p. p.plant.objects };
 
-    ghost labels = { λ p. p.plant.names };
+    ghost constants = { λ p. p.plant.names };
 
     fn lay(
         &mut self,

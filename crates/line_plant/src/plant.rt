@@ -327,7 +327,7 @@ impl<S: Source, K: Sink> Plant for LinePlant<S, K> {
 
     ghost objects = { λ p. p.objects };
 
-    ghost labels = { λ p. p.names };
+    ghost constants = { λ p. p.names };
 
     fn lay(
         &mut self,

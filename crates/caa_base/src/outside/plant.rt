@@ -84,8 +84,9 @@ pub trait Plant {
     /// How many objects have a value.
     ghost objects: { Self → ℕ };
 
-    /// What it calls its objects, the first one first, where the plant tells it. No call changes that.
-    ghost labels: { Self → List (List ℕ) } = { λ _. [] };
+    /// What it was made with, as lists of numbers in a form of its own, where the plant tells it: what it calls its objects, say.
+    /// No call changes that.
+    ghost constants: { Self → List (List ℕ) } = { λ _. [] };
 
     /// Lays out the values of the objects, those puts that are to be refused, and room for this
     /// many calls of `put`. Whether the plant tells its state or its drilling is never changed.
@@ -110,7 +111,7 @@ pub trait Plant {
         ensures tells_drilling { is_some (drilling self.new) ≡ is_some (drilling self.old) }
         ensures count { CountsFault (is_refused result) (lay_faults self.old) (lay_faults self.new) }
         ensures put_faults { faults self.new ≡ faults self.old }
-        ensures labels { labels self.new ≡ labels self.old };
+        ensures constants { constants self.new ≡ constants self.old };
 
     /// Sets the value of an object. A put that fails is counted, and leaves the value.
     ///
@@ -129,7 +130,7 @@ pub trait Plant {
         ensures objects { objects self.new ≡ objects self.old }
         ensures count { CountsFault (is_err result) (faults self.old) (faults self.new) }
         ensures lay_faults { lay_faults self.new ≡ lay_faults self.old }
-        ensures labels { labels self.new ≡ labels self.old };
+        ensures constants { constants self.new ≡ constants self.old };
 
     /// The same put, by which an action that is undone brings an object back. A device may take an undo in another way than a step,
     /// more slowly or with its drives at half power.
@@ -146,7 +147,7 @@ pub trait Plant {
         ensures objects { objects self.new ≡ objects self.old }
         ensures count { CountsFault (is_err result) (faults self.old) (faults self.new) }
         ensures lay_faults { lay_faults self.new ≡ lay_faults self.old }
-        ensures labels { labels self.new ≡ labels self.old };
+        ensures constants { constants self.new ≡ constants self.old };
 
     /// Tells the plant of an entry, right when it stands in the journal: behind the put that it is the answer to, and before any
     /// further one. A device that writes its log here writes it as the machine moves.
@@ -159,7 +160,7 @@ pub trait Plant {
         ensures objects { objects self.new ≡ objects self.old }
         ensures faults { faults self.new ≡ faults self.old }
         ensures lay_faults { lay_faults self.new ≡ lay_faults self.old }
-        ensures labels { labels self.new ≡ labels self.old };
+        ensures constants { constants self.new ≡ constants self.old };
 
     /// How many calls of `lay` failed so far.
     fn lay_faults(&self) -> u64

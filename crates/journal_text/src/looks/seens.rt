@@ -101,11 +101,4 @@ impl Seens {
     {
         self.items.as_slice()
     }
-
-    /// The watches don't fall, and each value is in range. A statement alone: the call does nothing.
-    pub fn are_in_order(&self)
-        ensures { AreInOrder self.now.seens }
-    {
-        let _ = &self.items;
-    }
 }
