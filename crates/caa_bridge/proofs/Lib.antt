@@ -1,1 +1,2 @@
-pub mod NamesKept
+pub mod Kept
+pub mod Alike
