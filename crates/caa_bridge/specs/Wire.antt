@@ -1,5 +1,6 @@
 -- What a call of the program serves, for which device, and what it sent to that.
-use Rattle.std.specs.Prelude.{◌≡◌, ◌⊎◌, if◌then◌else◌, ℕ, Bool, List, [], Option, Some}
+use Rattle.std.specs.Prelude.{◌≡◌, ◌⊎◌, if◌then◌else◌, ℕ, Bool, ◌&&◌, not, true, false, List, [], ◌∷◌, Option, Some}
+use Rattle.std.specs.List.{list_any}
 use Rattle.caa_base.specs.declared.outside.plant.Plant.{Ghosts as PlantGhosts}
 use Rattle.caa_base.specs.declared.outside.sink.Sink.{Ghosts as SinkGhosts}
 use Rattle.caa_base.specs.declared.outside.source.Source.{Ghosts as SourceGhosts}
@@ -13,7 +14,10 @@ use Rattle.caa_commands.specs.declared.command.Command.{Command}
 use Rattle.caa_commands.specs.declared.fault.Refusal.{Refusal}
 use Rattle.caa_commands.specs.declared.status.Status.{Status}
 use Rattle.line_plant.specs.Devices.{LineDevice, WireCarried}
-use Rattle.line_plant.specs.GivenUp.{fatal_places}
+use Rattle.journal_replay.specs.Device.{history_after}
+use Rattle.place_plan.specs.RulesOfJournals.Attempts.{is_attempt}
+use Rattle.place_plan.specs.RulesOfJournals.Journals.{is_fault}
+use Rattle.line_plant.specs.GivenUp.{fatal_places, says_failed}
 use Rattle.line_plant.specs.Lines.{object_names}
 
 -- the command that is served: by the call that may wait, where it needs threads, and else by the one that always returns
@@ -52,6 +56,19 @@ pub record IsOnWire {P S K : Type 0} (sources : SourceGhosts S) (sinks : SinkGho
   pub history : plant.history ≡ Some device.asked
   pub carried : WireCarried sources sinks device
 
+-- the device took the put of the entry
+abbrev pub is_taken : Entry → Bool
+is_taken e = is_attempt e && not (is_fault e)
+
+-- once one of these places ended as failed, no put is taken any more
+abbrev pub NothingMoves : List ℕ → List Entry → Type 0
+NothingMoves places [] = Unit {0}
+NothingMoves places (e ∷ later) = (says_failed places e ≡ true → list_any is_taken later ≡ false) × NothingMoves places later
+
+-- so it is with the journal that was played on the device
+abbrev pub StandsStill : {P : Type 0} → PlantUse P → List ℕ → List Entry → Type 0
+StandsStill plant fatal journal = (plan : Plan) → plant.history ≡ history_after plan journal plant.history_before → NothingMoves fatal journal
+
 -- a call that makes its device for the script of these bytes, and serves a command over them
 pub record Serves {S P A K : Type 0} (sources : SourceGhosts S) (plants : PlantGhosts P) (answers : SourceGhosts A) (sinks : SinkGhosts K)
     (lines : P → LineDevice A K) (asked : Option Command) (bytes : List ℕ) (goes_on : Bool) (to_come held : Option (List ℕ)) (left : P)
@@ -63,3 +80,4 @@ pub record Serves {S P A K : Type 0} (sources : SourceGhosts S) (plants : PlantG
   pub whole : sources.left source ≡ Some bytes
   pub answered : LogAnswers (call_over sources plants (served_of asked) source read device left journal) log answer
   pub wire : IsOnWire answers sinks (plant_use plants device left) (lines device) (lines left)
+  pub still : StandsStill (plant_use plants device left) (lines device).fatal journal
