@@ -1,5 +1,5 @@
 -- What a call of the program serves, for which device, and what it sent to that.
-use Rattle.std.specs.Prelude.{◌≡◌, ◌⊎◌, if◌then◌else◌, ℕ, Bool, ◌&&◌, not, true, false, List, [], ◌∷◌, Option, Some}
+use Rattle.std.specs.Prelude.{◌≡◌, ◌⊎◌, if◌then◌else◌, ℕ, Bool, ◌&&◌, not, true, false, List, [], ◌∷◌, Option, None, Some}
 use Rattle.std.specs.List.{list_any}
 use Rattle.caa_base.specs.declared.outside.plant.Plant.{Ghosts as PlantGhosts}
 use Rattle.caa_base.specs.declared.outside.sink.Sink.{Ghosts as SinkGhosts}
@@ -29,15 +29,16 @@ pub record IsOfPlan {S K : Type 0} (goes_on : Bool) (device : LineDevice S K) (p
   pub names : device.names ≡ object_names plan
   pub fatal : device.fatal ≡ fatal_places goes_on plan
 
--- it is the device of the plan of the script that these bytes spell, or there is no such plan
-abbrev pub IsOfScript : {S K : Type 0} → List ℕ → Bool → LineDevice S K → Type 0
-IsOfScript bytes goes_on device =
-    ((plan : Plan) × (IsThePlan bytes plan × IsOfPlan goes_on device plan)) ⊎ ((refusal : Refusal) × IsRefusedScript bytes refusal)
+-- it is the device of this plan, which is that of the script that these bytes spell; or there is none, since the script is refused
+abbrev pub IsOfScript : {S K : Type 0} → List ℕ → Bool → LineDevice S K → Option Plan → Type 0
+IsOfScript bytes goes_on device (Some plan) = IsThePlan bytes plan × IsOfPlan goes_on device plan
+IsOfScript bytes goes_on device None = (refusal : Refusal) × IsRefusedScript bytes refusal
 
--- a device that was made for the script of these bytes, over a source that had this left and a sink that held this, and was asked for
--- nothing yet
-pub record IsMadeFor {S K : Type 0} (bytes : List ℕ) (goes_on : Bool) (left held : Option (List ℕ)) (device : LineDevice S K) : Type 0 where
-  pub of_script : IsOfScript bytes goes_on device
+-- a device that was made for the script of these bytes, with this plan, over a source that had this left and a sink that held this, and
+-- was asked for nothing yet
+pub record IsMadeFor {S K : Type 0} (bytes : List ℕ) (goes_on : Bool) (left held : Option (List ℕ)) (plan : Option Plan)
+    (device : LineDevice S K) : Type 0 where
+  pub of_script : IsOfScript bytes goes_on device plan
   pub start : device.start ≡ held
   pub to_come : device.to_come ≡ left
   pub unasked : device.asked ≡ []
@@ -71,10 +72,10 @@ StandsStill plant fatal journal = (plan : Plan) → plant.history ≡ history_af
 
 -- a call that makes its device for the script of these bytes, and serves a command over them
 pub record Serves {S P A K : Type 0} (sources : SourceGhosts S) (plants : PlantGhosts P) (answers : SourceGhosts A) (sinks : SinkGhosts K)
-    (lines : P → LineDevice A K) (asked : Option Command) (bytes : List ℕ) (goes_on : Bool) (to_come held : Option (List ℕ)) (left : P)
-    (journal : List Entry) (log : SinkUse) (answer : Status) : Type 0 where
+    (lines : P → LineDevice A K) (asked : Option Command) (bytes : List ℕ) (goes_on : Bool) (to_come held : Option (List ℕ))
+    (plan : Option Plan) (left : P) (journal : List Entry) (log : SinkUse) (answer : Status) : Type 0 where
   pub device : P
-  pub made : IsMadeFor bytes goes_on to_come held (lines device)
+  pub made : IsMadeFor bytes goes_on to_come held plan (lines device)
   pub source : S
   pub read : S
   pub whole : sources.left source ≡ Some bytes

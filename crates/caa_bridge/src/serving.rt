@@ -47,7 +47,7 @@ fn call<
     requires alike { TellsAlike ⟦<K as Sink>⟧ }
     ensures answer { ∥ LogAnswers
         (call_over ⟦<S as Source>⟧ ⟦<Noted<A, C, O> as Plant>⟧ (served_of (command_of (map string_bytes words.now)))
-        source.old source.new device.entry result.plant result.journal.entries)
+        source.old source.new device result.plant result.journal.entries)
         (sink_use ⟦<K as Sink>⟧ sink result.sink)
         result.status ∥₁ }
 {
@@ -75,7 +75,7 @@ fn device_for<A: Source + Drop, C: Sink + Drop, O: Write + Drop>(
     operator: O,
     goes_on: bool,
 ) -> Result<(Option<Plan>, Noted<A, C, O>), OutOfMemory>
-    ensures { IfOk result (λ made. IsMadeFor script.now goes_on (A.left answers) (C.held commands) made.1.plant) }
+    ensures { IfOk result (λ made. IsMadeFor script.now goes_on (A.left answers) (C.held commands) made.0 made.1.plant) }
 {
     let plan = match plan_of(alloc, script) {
         Ok(plan) => Some(plan),
@@ -93,7 +93,7 @@ fn device_for<A: Source + Drop, C: Sink + Drop, O: Write + Drop>(
 /// `run` and `pool` as it is played.
 ///
 /// What the device was ever asked for, by the use that the call made of it, is what was sent on its wire, line by line, with the names
-/// of the script's objects; and just what was done was answered `well` there. Once a play has failed, it does nothing more, and `stop`
+/// of the script's objects, whose plan is handed back; and just what was done was answered `well` there. Once a play has failed, it does nothing more, and `stop`
 /// is sent, unless it goes on. The call need not return. Where no memory is found for the device, nothing was asked.
 pub fn serve<
     K: Sink + Drop + Send,
@@ -117,7 +117,7 @@ pub fn serve<
     requires fresh { IsFresh ⟦<K as Sink>⟧ sink }
     requires alike { TellsAlike ⟦<K as Sink>⟧ }
     ensures { IfOk result (λ s. ∥ Serves ⟦<SureSource as Source>⟧ ⟦<Noted<A, C, O> as Plant>⟧ ⟦<A as Source>⟧ ⟦<C as Sink>⟧ (λ p. p.plant)
-        (command_of (map string_bytes words.now)) script.now goes_on (A.left answers) (C.held commands) s.end.plant s.end.journal.entries
+        (command_of (map string_bytes words.now)) script.now goes_on (A.left answers) (C.held commands) s.plan s.end.plant s.end.journal.entries
         (sink_use ⟦<K as Sink>⟧ sink s.end.sink) s.end.status ∥₁) }
 {
     let (plan, device) = device_for(alloc, script, answers, commands, operator, goes_on)?;
