@@ -1,6 +1,6 @@
 -- What a table still tells as it grows.
-use Rattle.std.proofs.Common.{◌≡◌, ◌∙◌, ℕ, zero, suc, ◌+◌, ◌<◌, ◌≤◌, true, false, List, [], ◌∷◌, ◌++◌, refl, ap, sym, subst, length, reverse, take, get_or, arith, below_more}
-use Rattle.std.specs.Prelude.{Some, slice_get}
+use Rattle.std.proofs.Common.{◌≡◌, ◌∙◌, ℕ, zero, suc, ◌+◌, ◌<◌, ◌≤◌, false, List, [], ◌∷◌, ◌++◌, refl, ap, sym, subst, length, reverse, take, get_or, arith, below_more}
+use Rattle.std.specs.Prelude.{Some}
 use Rattle.std.proofs.lemmas.List.{get_or_default}
 use Rattle.std.specs.List.{All, Contains}
 use Rattle.std.proofs.lemmas.List.{append-nil, append_assoc}
@@ -34,9 +34,6 @@ grown_grown a b c ab bc = record {
   more = ab.more ++ bc.more;
   added = bc.added ∙ ap (λ lines. lines ++ bc.more) ab.added ∙ append_assoc a ab.more bc.more;
 }
-
-pub grown_added : (old new : List Line) (spot : Spot) (way : Mode) (class : Class) → Added old new spot way class → Grown old new
-grown_added old new spot way class one = record { more = one.line ∷ []; added = one.added }
 
 -- ---- what lines tell
 

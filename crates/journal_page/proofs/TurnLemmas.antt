@@ -6,8 +6,8 @@ use Rattle.std.proofs.Math.Seq.{get_or-append_seam}
 use Rattle.caa_base.specs.declared.written.entry.Entry.{Entry}
 use Rattle.place_plan.specs.Plans.PlanValue.{Plan}
 use Rattle.journal_states.specs.declared.states.States.{States}
-use Rattle.journal_states.specs.Past.{plan_in, journal_in, taken_in, past_in, IsAtEnd}
-use Rattle.journal_page.specs.Stances.{IsStance, IsTurn, AreTurns, StopsAt}
+use Rattle.journal_states.specs.Past.{plan_in, journal_in, taken_in, past_in}
+use Rattle.journal_page.specs.Stances.{IsStance, IsTurn, AreTurns}
 use Rattle.journal_page.specs.declared.stances.Stance.{Stance}
 use Rattle.journal_page.specs.declared.turns.Turn.{Turn}
 
@@ -38,11 +38,3 @@ one_more plan entries turns turn are last k d below =
     (λ j low. subst (IsTurn plan entries j) (sym (get_or_append_left turns (turn ∷ []) d j low)) (are j d low))
     (subst (IsTurn plan entries (length turns)) (sym (get_or-append_seam turns turn [] d)) last)
     k (omega (arith, length-append turns (turn ∷ []), below))
-
--- where no further entry is taken in, none may come
-pub stops_there : (s : States) (plan : Plan) (entries : List Entry) (n : ℕ) → plan_in s ≡ plan → journal_in s ≡ entries
-    → taken_in s ≡ n → IsAtEnd s → StopsAt plan entries n
-stops_there s plan entries n of over taken ends =
-    subst (λ (m : ℕ). StopsAt plan entries m) taken
-    (subst (λ (j : List Entry). StopsAt plan j (taken_in s)) over
-    (subst (λ (p : Plan). StopsAt p (journal_in s) (taken_in s)) of ends))

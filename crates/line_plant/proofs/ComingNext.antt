@@ -56,12 +56,6 @@ behind_front old (Some xs) front back taken begins =
     let same : front ++ xs ≡ (front ++ back) ++ begins.0 = grind (arith, common_steps, taken, begins.1) in
     (begins.0, ap Some (append_cancel_left front xs (back ++ begins.0) (same ∙ append_assoc front back begins.0)))
 
--- two pieces that were taken, one after the other
-pub both_taken : (old mid new : Option (List ℕ)) (front back : List ℕ)
-    → old ≡ prepend_known front mid → mid ≡ prepend_known back new → old ≡ prepend_known (front ++ back) new
-both_taken old mid None front back p q = grind (arith, common_steps, p, q)
-both_taken old mid (Some xs) front back p q = grind (arith, common_steps, p, q)
-
 -- what doesn't come next behind a front doesn't come next with that front
 pub not_behind : (old mid : Option (List ℕ)) (first before after : ℕ) (front back : List ℕ)
     → old ≡ prepend_known front mid → before ≡ first → IsNotNext mid before after back → IsNotNext old first after (front ++ back)

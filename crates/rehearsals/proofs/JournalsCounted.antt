@@ -14,9 +14,6 @@ use Rattle.rehearsals.specs.declared.facts.Fact.TheVariants as fact
 use Rattle.rehearsals.specs.Facts.{facts_of, values_with, values_after, last_facts}
 use Rattle.rehearsals.specs.Tallies.{Rehearsed, count_of, is_shown, one_if}
 
-pub nothing_rehearsed : (plan : Plan) (paths : List ℕ) → Rehearsed plan paths [] 0
-nothing_rehearsed plan paths = record { journals = []; all = refl; drilled = tt; counts = λ f. refl }
-
 pub one_more_rehearsed : (plan : Plan) (paths : List ℕ) (rows new : List Row) (n : ℕ) (journal : List Entry) (facts : List Fact)
     → Rehearsed plan paths rows n → IsLegal plan journal → IsComplete plan journal → IsDrilled plan journal
     → facts ≡ facts_of plan paths journal
