@@ -281,6 +281,8 @@ def full_disk(bridge, caa, folder):
     """What is wrong where the journal can't be written to its end: the machine isn't left half way."""
     cell = Cell()
     play = Play(bridge, ["sim", SEED], SCRIPTS[0], "/dev/full", cell)
+    if [line.split()[0] for line in play.sent] != ["lay", "stop"]:
+        return f"a full disk: sent {play.sent}"
     return None if play.status == 5 and "/dev/full" in play.told else f"a full disk: status {play.status}, told {play.told}"
 
 

@@ -82,10 +82,14 @@ fn play_on<R: Threads + Wait + Sync>(
     )?;
     let LoggedEnd {
         status,
-        plant: device,
+        plant: mut device,
         journal,
         sink: _,
     } = end;
+    if journal.is_empty() && status != Status::PlantFault && device.plant.next_number() > 0 {
+        // It was laid out, and no play began.
+        device.plant.stop();
+    }
     tell_status(&mut operator, status, call, !journal.is_empty());
     Ok(match plan {
         Some(plan) if !journal.is_empty() => {
