@@ -1,7 +1,8 @@
 //! Where a journal breaks a rule first.
 
-ghost use Rattle.std.specs.Prelude.{◌≡◌, ◌↔◌, reverse, IfOk, IsTrue};
-ghost use Rattle.interlock_rules.specs.Interlocks.{Takes, IsInterlocked, IsFirstBreak};
+ghost use Rattle.std.specs.Prelude.{◌≡◌, ◌↔◌, not, reverse, IfOk, IsTrue};
+ghost use Rattle.std.specs.List.{list_any, list_all};
+ghost use Rattle.interlock_rules.specs.Interlocks.{is_fault_on, Takes, IsInterlocked, IsFirstBreak};
 
 use crate::rules::{Rule, is_fault_on};
 use crate::watch::Watch;
@@ -43,11 +44,25 @@ pub fn first_break(
     Ok(FirstBreak::Nowhere)
 }
 
-/// Whether the device refused neither a put nor a restore of these objects.
+/// Whether the device refused a put or a restore of the object.
+fn was_refused(object: Object, entries: &[Entry]) -> bool
+    ensures { result ≡ list_any (is_fault_on object) entries.now }
+{
+    entries.iter().any(|entry| is_fault_on(object, entry))
+}
+
+/// Whether the device refused no put or restore of any of these objects.
+fn are_taken(taken: &[Object], entries: &[Entry]) -> bool
+    ensures { result ≡ list_all (λ o. not (list_any (is_fault_on o) entries.now)) taken.now }
+{
+    taken.iter().all(|object| !was_refused(*object, entries))
+}
+
+/// Whether the device took each put and each restore of these objects.
 pub fn takes(taken: &[Object], entries: &[Entry]) -> bool
     ensures { IsTrue result ↔ Takes taken.now (reverse entries.now) }
 {
-    taken.iter().all(|object| !entries.iter().any(|entry| is_fault_on(*object, entry)))
+    are_taken(taken, entries)
 }
 
 /// Whether nothing in these entries breaks a rule, or the device refused a put or a restore of one of these objects.
@@ -60,11 +75,8 @@ pub fn is_interlocked(
 ) -> Result<bool, OutOfMemory>
     ensures { IfOk result (λ so. IsTrue so ↔ IsInterlocked rule.now taken.now plan.now (reverse entries.now)) }
 {
-    if !takes(taken, entries) {
-        return Ok(true);
-    }
     match first_break(alloc, plan, rule, entries)? {
         FirstBreak::Nowhere => Ok(true),
-        FirstBreak::FirstValues | FirstBreak::ByEntry(_) => Ok(false),
+        FirstBreak::FirstValues | FirstBreak::ByEntry(_) => Ok(!takes(taken, entries)),
     }
 }

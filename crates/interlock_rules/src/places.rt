@@ -39,6 +39,14 @@ fn add_number(numbers: &mut Vec<i64>, number: i64) -> Result<(), OutOfMemory>
     Ok(())
 }
 
+/// Adds the number that an entry puts, unless it is there already.
+fn add_value(numbers: &mut Vec<i64>, entry: &Entry) -> Result<(), OutOfMemory>
+    ensures { OnOk result
+        ((x : ℤ) → list_any (int_same x) numbers.new.items ≡ int_same x entry.now.value || list_any (int_same x) numbers.old.items) }
+{
+    add_number(numbers, entry.value)
+}
+
 /// All numbers at which an object may be after these entries, each once. Where it was put last stands last.
 pub fn where_may_be(
     alloc: Global,
@@ -49,13 +57,14 @@ pub fn where_may_be(
     ensures { IfOk result (λ numbers. (x : ℤ) → list_any (int_same x) numbers.items ≡ may_be plan.now (reverse entries.now) object x) }
 {
     let mut numbers = Vec::new(alloc);
-    for entry in entries.iter().rev() {
+    for index in (0..entries.len()).rev() {
+        let entry = &entries[index];
         if is_put_on(object, entry) {
-            add_number(&mut numbers, entry.value)?;
+            add_value(&mut numbers, entry)?;
             return Ok(numbers);
         }
         if is_fault_on(object, entry) {
-            add_number(&mut numbers, entry.value)?;
+            add_value(&mut numbers, entry)?;
         }
     }
     add_number(&mut numbers, first_value(plan, object))?;
