@@ -1,0 +1,3 @@
+mod MayBe
+mod Moments
+mod Watching

@@ -1,0 +1,2 @@
+pub mod Interlocks
+pub mod inner
