@@ -185,12 +185,7 @@ struct Words {
 }
 
 /// A line that tells how far a view of plays has come.
-fn progress_line(
-    alloc: Global,
-    words: Words,
-    done: u32,
-    all: u32,
-) -> Result<Vec<u8>, OutOfMemory> {
+fn progress_line(alloc: Global, words: Words, done: u32, all: u32) -> Result<Vec<u8>, OutOfMemory> {
     let mut page = Page::new(alloc, &[]);
     page.say(&[
         Piece::Text(words.view),

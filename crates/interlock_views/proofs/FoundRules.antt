@@ -19,4 +19,4 @@ pub found_more : (taken : List ℕ) (plan : Plan) (old new : List Found) (one : 
     → IsFound taken plan one → All (IsFound taken plan) old → All (IsFound taken plan) new
 found_more taken plan old new one added is all =
     subst (All (IsFound taken plan)) (sym added)
-        (All-append (IsFound taken plan) old (one ∷ []) all (all_one (IsFound taken plan) one is))
+    (All-append (IsFound taken plan) old (one ∷ []) all (all_one (IsFound taken plan) one is))

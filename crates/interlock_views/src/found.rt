@@ -1,9 +1,9 @@
 //! Where a journal breaks a rule, with the line of the entry that does, and where the objects of the rule may be then.
 
-ghost use Rattle.std.specs.Prelude.{◌≡◌, ◌++◌, IfOk};
+ghost use Rattle.std.specs.Prelude.{◌≡◌, true, slice_get, IfOk};
 ghost use Rattle.place_plan.specs.RulesOfJournals.WellFormed.{AllWellFormed};
 ghost use Rattle.interlock_rules.specs.Interlocks.{IsFirstBreak};
-ghost use Rattle.interlock_views.specs.Broken.{breaking_line, IsJudged};
+ghost use Rattle.interlock_views.specs.Broken.{line_of, breaking_line, is_somewhere, IsBroken, IsJudged};
 
 use crate::reading::RuleLine;
 use caa_base::written::entry::{Drill, Entry, Object, OutOfMemory};
@@ -42,6 +42,23 @@ pub struct Found {
     pub refused: Vec<Drill>,
 }
 
+/// The line of the entry of this index, if there is one.
+fn line_at(
+    alloc: Global,
+    plan: &Plan,
+    entries: &[Entry],
+    index: usize,
+) -> Result<Vec<u8>, OutOfMemory>
+    requires { AllWellFormed plan.now entries.now }
+    ensures { IfOk result (λ line. line.items ≡ line_of plan.now (slice_get entries.now index)) }
+{
+    let mut line = Vec::new(alloc);
+    if index < entries.len() {
+        push_entry(&mut line, plan, &entries[index])?;
+    }
+    Ok(line)
+}
+
 /// The line of the entry that breaks a rule.
 fn breaking_line(
     alloc: Global,
@@ -52,14 +69,12 @@ fn breaking_line(
     requires { AllWellFormed plan.now entries.now }
     ensures { IfOk result (λ line. line.items ≡ breaking_line plan.now entries.now by) }
 {
-    let mut line = Vec::new(alloc);
-    if let FirstBreak::ByEntry(number) = by {
-        let index = number.saturating_sub(1) as usize;
-        if index < entries.len() {
-            push_entry(&mut line, plan, &entries[index])?;
+    match by {
+        FirstBreak::Nowhere | FirstBreak::FirstValues => Ok(Vec::new(alloc)),
+        FirstBreak::ByEntry(number) => {
+            line_at(alloc, plan, entries, number.saturating_sub(1) as usize)
         }
     }
-    Ok(line)
 }
 
 /// The entries after which it is told where the objects of a rule may be.
@@ -108,6 +123,29 @@ fn whereabouts_of(
     Ok(whereabouts)
 }
 
+/// What is told of a rule that these entries break here first.
+fn broken_by(
+    alloc: Global,
+    plan: &Plan,
+    rule: &Rule,
+    entries: &[Entry],
+    by: FirstBreak,
+) -> Result<Broken, OutOfMemory>
+    requires entries { AllWellFormed plan.now entries.now }
+    requires some { is_somewhere by ≡ true }
+    requires first { IsFirstBreak rule.now plan.now entries.now by }
+    ensures { IfOk result (IsBroken rule.now plan.now entries.now) }
+{
+    let line = breaking_line(alloc, plan, entries, by)?;
+    let before = entries_before(rule, entries, by);
+    let whereabouts = whereabouts_of(alloc, plan, rule, before)?;
+    Ok(Broken {
+        by,
+        line,
+        whereabouts,
+    })
+}
+
 /// Where these entries, the oldest first, break a rule first, if they do. They need not be a legal journal.
 pub fn judge(
     alloc: Global,
@@ -119,12 +157,11 @@ pub fn judge(
     ensures { IfOk result (IsJudged rule.now plan.now entries.now) }
 {
     let by = first_break(alloc, plan, rule, entries)?;
-    if by == FirstBreak::Nowhere {
-        return Ok(None);
+    match by {
+        FirstBreak::Nowhere => Ok(None),
+        FirstBreak::FirstValues | FirstBreak::ByEntry(_) => {
+            let broken = broken_by(alloc, plan, rule, entries, by)?;
+            Ok(Some(broken))
+        }
     }
-    Ok(Some(Broken {
-        by,
-        line: breaking_line(alloc, plan, entries, by)?,
-        whereabouts: whereabouts_of(alloc, plan, rule, entries_before(rule, entries, by))?,
-    }))
 }

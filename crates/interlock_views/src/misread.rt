@@ -104,11 +104,7 @@ fn tell_objects(page: &mut Page, plan: &Plan) -> Result<(), OutOfMemory> {
 
 /// Tells something of a word.
 fn tell_of(page: &mut Page, word: Word, what: &'static str) -> Result<(), OutOfMemory> {
-    page.note(&[
-        Piece::Text("`"),
-        Piece::Word(word.text),
-        Piece::Text(what),
-    ])
+    page.note(&[Piece::Text("`"), Piece::Word(word.text), Piece::Text(what)])
 }
 
 /// Tells how the lines of rules are written.
@@ -142,9 +138,7 @@ fn tell_no_kind(page: &mut Page, word: Word) -> Result<(), OutOfMemory> {
 /// Tells a byte that no line may have.
 fn tell_odd_byte(page: &mut Page, word: Word) -> Result<(), OutOfMemory> {
     push_character(page, word.text)?;
-    page.say(&[Piece::Text(
-        " may stand in comments alone: other lines are written in ASCII\n",
-    )])
+    page.say(&[Piece::Text(" may stand in comments alone: other lines are written in ASCII\n")])
 }
 
 /// Tells of so many bytes or rules that they are too many.

@@ -44,11 +44,7 @@ pub fn puts_of(
 }
 
 /// A put, and those of the next three of its object that are refused with it.
-pub fn refused_with(
-    alloc: Global,
-    put: Drill,
-    later: &Later,
-) -> Result<Vec<Drill>, OutOfMemory> {
+pub fn refused_with(alloc: Global, put: Drill, later: &Later) -> Result<Vec<Drill>, OutOfMemory> {
     let mut refused = Vec::new(alloc);
     refused.push(put)?;
     let mut nth = put.nth;

@@ -74,10 +74,7 @@ fn condition_by<'a>(test: Word<'a>, number: i64) -> Result<Condition, LineError<
 }
 
 /// The condition that a test and the word behind it say.
-fn condition_of<'a>(
-    test: Word<'a>,
-    number: Option<Word<'a>>,
-) -> Result<Condition, LineError<'a>> {
+fn condition_of<'a>(test: Word<'a>, number: Option<Word<'a>>) -> Result<Condition, LineError<'a>> {
     condition_by(test, 0)?;
     let Some(number) = number else {
         return Err(at_fault(test, Fault::NumberLeftOut));
@@ -89,10 +86,7 @@ fn condition_of<'a>(
 }
 
 /// The conditions that words say: tests, each with a number behind it.
-fn conditions_of<'a>(
-    alloc: Global,
-    words: &[Word<'a>],
-) -> Result<Rows<Condition>, LineError<'a>> {
+fn conditions_of<'a>(alloc: Global, words: &[Word<'a>]) -> Result<Rows<Condition>, LineError<'a>> {
     let mut conditions = Vec::new(alloc);
     let mut test = None;
     for word in words {
@@ -362,12 +356,7 @@ fn add_objects(objects: &mut Vec<Object>, more: &[Object]) -> Result<(), OutOfMe
 
 impl RulesFile {
     /// Adds what a line says, which begins with this word.
-    fn add<'a>(
-        &mut self,
-        number: u32,
-        first: Word<'a>,
-        said: Said,
-    ) -> Result<(), LineError<'a>> {
+    fn add<'a>(&mut self, number: u32, first: Word<'a>, said: Said) -> Result<(), LineError<'a>> {
         match said {
             Said::Nothing => Ok(()),
             Said::Taken(objects) => {

@@ -59,12 +59,7 @@ impl<'a> Telling<'a> {
     }
 
     /// Says what becomes of the rule in the line of this number, in a line that ends with the rule.
-    fn say_head(
-        &self,
-        page: &mut Page,
-        number: u32,
-        what: &[Piece],
-    ) -> Result<(), OutOfMemory> {
+    fn say_head(&self, page: &mut Page, number: u32, what: &[Piece]) -> Result<(), OutOfMemory> {
         page.say(&[
             Piece::Word(self.file),
             Piece::Text(":"),
@@ -92,11 +87,7 @@ impl<'a> Telling<'a> {
     }
 
     /// Says where the objects of a broken rule may be.
-    fn say_all_whereabouts(
-        &self,
-        page: &mut Page,
-        broken: &Broken,
-    ) -> Result<(), OutOfMemory> {
+    fn say_all_whereabouts(&self, page: &mut Page, broken: &Broken) -> Result<(), OutOfMemory> {
         for (index, whereabouts) in broken.whereabouts.iter().enumerate() {
             page.say(&[Piece::Text(if index > 0 { ", " } else { "  " })])?;
             self.say_whereabouts(page, whereabouts)?;
