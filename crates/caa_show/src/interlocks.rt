@@ -3,6 +3,7 @@
 ghost use Rattle.std.specs.Prelude.{◌≡◌, true};
 ghost use Rattle.place_plan.specs.RulesOfJournals.WellFormed.{AllWellFormed};
 ghost use Rattle.journal_text.specs.Texts.Naming.{is_well_named};
+ghost use Rattle.caa_show.specs.Interlocks.{status_of};
 
 use crate::plays::too_many;
 use crate::reading::{Input, Reading, read_journal};
@@ -54,15 +55,28 @@ pub fn interlock_asked(words: &[String]) -> Option<InterlockCall> {
     })
 }
 
-/// What became of the rules, with its status.
-fn shown_of(told: RulesTold) -> Shown {
+/// The status of what became of the rules.
+fn status_of(told: &RulesTold) -> Status
+    ensures { result ≡ status_of told.now }
+{
     match told {
-        RulesTold::Page { text, is_bad } => {
-            let status = if is_bad { Status::Found } else { Status::Done };
-            with_status(status, text)
+        RulesTold::Refused(_) => Status::Refused,
+        RulesTold::Hunted { .. } | RulesTold::Judged { .. } => {
+            if told.is_bad() {
+                Status::Found
+            } else {
+                Status::Done
+            }
         }
-        RulesTold::Refused(why) => with_status(Status::Refused, why),
     }
+}
+
+/// What became of the rules, with its status.
+fn shown_of(told: RulesTold) -> Shown
+    ensures { result.status ≡ status_of told }
+{
+    let status = status_of(&told);
+    with_status(status, told.into_text())
 }
 
 /// What a hunt comes to, if it isn't too long.

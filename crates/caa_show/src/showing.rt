@@ -72,7 +72,9 @@ fn accepted(alloc: Global, plan: &Plan) -> Result<Vec<u8>, OutOfMemory> {
 }
 
 /// A text that goes with a status.
-pub fn with_status(status: Status, text: Vec<u8>) -> Shown {
+pub fn with_status(status: Status, text: Vec<u8>) -> Shown
+    ensures { result.status ≡ status }
+{
     Shown { status, text }
 }
 

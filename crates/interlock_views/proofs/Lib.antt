@@ -1,1 +1,2 @@
-pub mod FoundRules
+mod Judged
+mod Played

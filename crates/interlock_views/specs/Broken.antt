@@ -1,10 +1,9 @@
 -- What a view says of a rule that is broken. A past has its newest entry first, a journal its oldest.
-use Rattle.std.specs.Prelude.{◌≡◌, ℕ, ℤ, ◌-◌, Bool, true, false, List, [], ◌∷◌, reverse, take, Option, None, Some, slice_get}
-use Rattle.std.specs.List.{All, list_any}
+use Rattle.std.specs.Prelude.{◌≡◌, ℕ, ◌-◌, Bool, true, false, List, [], map, reverse, Option, None, Some, slice_get}
+use Rattle.std.specs.List.{All}
 use Rattle.caa_base.specs.declared.written.entry.Entry.{Entry}
 use Rattle.place_plan.specs.Plans.PlanValue.{Plan}
 use Rattle.place_plan.specs.RulesOfJournals.Journals.{IsLegal, IsComplete}
-use Rattle.place_plan.specs.RulesOfJournals.Roles.{int_same}
 use Rattle.journal_text.specs.Texts.Text.{entry_line}
 use Rattle.interlock_rules.specs.Interlocks.{KeepsInterlock, IsFirstBreak, Takes}
 use Rattle.interlock_rules.specs.declared.monitor.FirstBreak.{FirstBreak}
@@ -12,9 +11,8 @@ use Rattle.interlock_rules.specs.declared.monitor.FirstBreak.TheVariants as brok
 use Rattle.interlock_rules.specs.declared.rules.Rule.{Rule}
 use Rattle.interlock_views.specs.declared.found.Broken.{Broken}
 use Rattle.interlock_views.specs.declared.found.Found.{Found}
-use Rattle.interlock_views.specs.declared.hunting.Hunt.{Hunt}
-use Rattle.interlock_views.specs.declared.hunting.Judged.{Judged}
-use Rattle.interlock_views.specs.declared.hunting.Judged.TheVariants as judged
+use Rattle.interlock_views.specs.declared.found.JudgedRule.{JudgedRule}
+use Rattle.interlock_views.specs.declared.reading.RuleLine.{RuleLine}
 
 -- the line of an entry, if there is one
 abbrev pub line_of : Plan → Option Entry → List ℕ
@@ -43,6 +41,15 @@ abbrev pub IsJudged : Rule → Plan → List Entry → Option Broken → Type 0
 IsJudged rule plan journal None = KeepsInterlock rule plan (reverse journal)
 IsJudged rule plan journal (Some told) = IsBroken rule plan journal told
 
+-- a journal was judged by a rule of a file
+abbrev pub IsJudgedRule : Plan → List Entry → JudgedRule → Type 0
+IsJudgedRule plan journal judged = IsJudged judged.line.rule plan journal judged.broken
+
+-- a journal was judged by each of these rules, in their order
+pub record AreJudgedBy (plan : Plan) (journal : List Entry) (rules : List RuleLine) (judged : List JudgedRule) : Type 0 where
+  pub rules_are : map (λ it. it.line) judged ≡ rules
+  pub each : All (IsJudgedRule plan journal) judged
+
 -- some legal and complete journal, in which the device takes each put and restore of these objects, breaks the rule where it is told
 pub record IsFound (taken : List ℕ) (plan : Plan) (found : Found) : Type 0 where
   pub journal : List Entry
@@ -50,12 +57,3 @@ pub record IsFound (taken : List ℕ) (plan : Plan) (found : Found) : Type 0 whe
   pub complete : IsComplete plan journal
   pub takes : Takes taken (reverse journal)
   pub broken : IsBroken found.line.rule plan journal found.broken
-
--- what a rule comes to in a hunt: if it is found broken, some journal breaks it so
-abbrev pub IsJudgedSo : List ℕ → Plan → Judged → Type 0
-IsJudgedSo taken plan (judged.Open line) = Unit
-IsJudgedSo taken plan (judged.Found found) = IsFound taken plan found
-
--- each rule that a hunt has found broken is broken
-abbrev pub AreFound : Hunt → Type 0
-AreFound hunt = All (IsFound hunt.taken.items hunt.plan) hunt.found.items

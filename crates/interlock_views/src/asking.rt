@@ -1,8 +1,10 @@
 //! What a call asks of rules, and what it comes to.
 
+ghost use Rattle.std.specs.Prelude.{◌≡◌, IfOk};
 ghost use Rattle.place_plan.specs.RulesOfJournals.WellFormed.{AllWellFormed};
+ghost use Rattle.interlock_views.specs.Told.{is_bad, TellsHunt, TellsJudged};
 
-use crate::found::{Found, judge};
+use crate::found::{Found, JudgedRule, judge_rules};
 use crate::hunting::{Hunt, HuntProgress, hunt_in};
 use crate::reading::{RuleLine, RulesFile, RulesRead, read_rules};
 use crate::telling::Telling;
@@ -24,13 +26,46 @@ pub struct RulesCall<'a> {
     pub plays: u32,
 }
 
-/// What a view of rules came to.
+/// What a view of rules came to, and the lines of text that tell it.
 #[derive(Drop)]
 pub enum RulesTold {
-    /// What becomes of each rule, and whether one is broken.
-    Page { text: Vec<u8>, is_bad: bool },
-    /// The rules are refused; why, in lines of text.
+    /// The rules were hunted for.
+    Hunted {
+        text: Vec<u8>,
+        hunt: Hunt,
+    },
+    /// A journal was judged by each rule.
+    Judged {
+        text: Vec<u8>,
+        judged: Vec<JudgedRule>,
+    },
+    /// The rules are refused.
     Refused(Vec<u8>),
+}
+
+impl RulesTold {
+    /// Whether a rule is broken.
+    pub fn is_bad(&self) -> bool
+        ensures { result ≡ is_bad self.now }
+    {
+        match self {
+            RulesTold::Hunted { hunt, .. } => !hunt.found.is_empty(),
+            RulesTold::Judged { judged, .. } => judged.iter().any(|rule| rule.broken.is_some()),
+            RulesTold::Refused(_) => false,
+        }
+    }
+
+    /// The lines of text.
+    pub fn into_text(self) -> Vec<u8> {
+        match self {
+            RulesTold::Hunted { text, hunt: _hunt } => text,
+            RulesTold::Judged {
+                text,
+                judged: _judged,
+            } => text,
+            RulesTold::Refused(why) => why,
+        }
+    }
 }
 
 impl<'a> RulesCall<'a> {
@@ -84,7 +119,9 @@ pub fn show_hunt<P: HuntProgress>(
     plan: Plan,
     call: &RulesCall,
     progress: &mut P,
-) -> Result<RulesTold, OutOfMemory> {
+) -> Result<RulesTold, OutOfMemory>
+    ensures { IfOk result (TellsHunt plan) }
+{
     let rules = match read_rules(alloc, &plan, call.file, call.text)? {
         RulesRead::Read(rules) => rules,
         RulesRead::Refused(why) => return Ok(RulesTold::Refused(why)),
@@ -92,9 +129,23 @@ pub fn show_hunt<P: HuntProgress>(
     let RulesFile { taken, rules } = rules;
     let numbers = numbers_of(alloc, &rules)?;
     let hunt = hunt_in(alloc, plan, taken, rules, call.plays, progress)?;
-    let is_bad = !hunt.found.is_empty();
     let text = hunt_text(alloc, call, &numbers, &hunt)?;
-    Ok(RulesTold::Page { text, is_bad })
+    Ok(RulesTold::Hunted { text, hunt })
+}
+
+/// The text of what a journal comes to for each rule.
+fn judged_text(
+    alloc: Global,
+    plan: &Plan,
+    call: &RulesCall,
+    judged: &[JudgedRule],
+) -> Result<Vec<u8>, OutOfMemory> {
+    let telling = call.telling(alloc, plan);
+    let mut page = Page::new(alloc, &[]);
+    for rule in judged {
+        telling.say_judged(&mut page, rule)?;
+    }
+    Ok(page.into_text())
 }
 
 /// Tells of each rule whether a journal keeps it. The journal need not be legal, nor complete.
@@ -105,19 +156,13 @@ pub fn show_kept(
     entries: &[Entry],
 ) -> Result<RulesTold, OutOfMemory>
     requires { AllWellFormed plan.now entries.now }
+    ensures { IfOk result (TellsJudged plan.now entries.now) }
 {
     let rules = match read_rules(alloc, plan, call.file, call.text)? {
         RulesRead::Read(rules) => rules,
         RulesRead::Refused(why) => return Ok(RulesTold::Refused(why)),
     };
-    let telling = call.telling(alloc, plan);
-    let mut page = Page::new(alloc, &[]);
-    let mut is_bad = false;
-    for line in &rules.rules {
-        let judged = judge(alloc, plan, &line.rule, entries)?;
-        telling.say_judged(&mut page, line.number, &judged)?;
-        is_bad = is_bad || judged.is_some();
-    }
-    let text = page.into_text();
-    Ok(RulesTold::Page { text, is_bad })
+    let judged = judge_rules(alloc, plan, rules.rules, entries)?;
+    let text = judged_text(alloc, plan, call, &judged)?;
+    Ok(RulesTold::Judged { text, judged })
 }

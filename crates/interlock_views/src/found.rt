@@ -3,7 +3,7 @@
 ghost use Rattle.std.specs.Prelude.{◌≡◌, true, slice_get, IfOk};
 ghost use Rattle.place_plan.specs.RulesOfJournals.WellFormed.{AllWellFormed};
 ghost use Rattle.interlock_rules.specs.Interlocks.{IsFirstBreak};
-ghost use Rattle.interlock_views.specs.Broken.{line_of, breaking_line, is_somewhere, IsBroken, IsJudged};
+ghost use Rattle.interlock_views.specs.Broken.{line_of, breaking_line, is_somewhere, IsBroken, IsJudged, AreJudgedBy};
 
 use crate::reading::RuleLine;
 use caa_base::written::entry::{Drill, Entry, Object, OutOfMemory};
@@ -40,6 +40,13 @@ pub struct Found {
     pub schedule: u32,
     /// The puts that the device refused.
     pub refused: Vec<Drill>,
+}
+
+/// A rule, and where a journal breaks it, if it does.
+#[derive(Drop)]
+pub struct JudgedRule {
+    pub line: RuleLine,
+    pub broken: Option<Broken>,
 }
 
 /// The line of the entry of this index, if there is one.
@@ -164,4 +171,22 @@ pub fn judge(
             Ok(Some(broken))
         }
     }
+}
+
+/// Where these entries break each of these rules first, in their order.
+pub fn judge_rules(
+    alloc: Global,
+    plan: &Plan,
+    rules: Vec<RuleLine>,
+    entries: &[Entry],
+) -> Result<Vec<JudgedRule>, OutOfMemory>
+    requires { AllWellFormed plan.now entries.now }
+    ensures { IfOk result (λ judged. AreJudgedBy plan.now entries.now rules.items judged.items) }
+{
+    let mut judged = Vec::new(alloc);
+    for line in rules {
+        let broken = judge(alloc, plan, &line.rule, entries)?;
+        judged.push(JudgedRule { line, broken })?;
+    }
+    Ok(judged)
 }

@@ -1,11 +1,10 @@
 //! The hunt for journals that break rules: a plan is played in many orders, and with puts that the device refuses.
 
-ghost use Rattle.std.specs.Prelude.{◌≡◌, ℕ, List, IfOk, OnOk};
-ghost use Rattle.std.specs.List.{All};
-ghost use Rattle.place_plan.specs.Plans.PlanValue.{Plan as PlanValue};
+ghost use Rattle.std.specs.Prelude.{◌≡◌, IfOk, OnOk};
 ghost use Rattle.place_plan.specs.RulesOfJournals.Journals.{IsLegal, IsComplete};
 ghost use Rattle.place_plan.specs.RulesOfJournals.WellFormed.{AllWellFormed};
-ghost use Rattle.interlock_views.specs.Broken.{AreFound, IsFound, IsJudgedSo};
+ghost use Rattle.interlock_views.specs.Hunts.{IsHunt, HuntsOn};
+ghost use Rattle.interlock_views.specs.inner.Judging.{IsAdded, AreJudged, IsJudgedSo};
 
 use crate::found::{Found, judge};
 use crate::puts::{LATER, Later, puts_of, refused_with};
@@ -37,7 +36,7 @@ pub struct Hunt {
     /// The objects of which the device takes each put.
     pub taken: Vec<Object>,
     /// The rules that no journal so far breaks.
-    pub open: Vec<RuleLine>,
+    pub unbroken: Vec<RuleLine>,
     /// Those that one does.
     pub found: Vec<Found>,
     /// How many journals were played, and how many entries they have.
@@ -71,7 +70,7 @@ struct Try {
 impl Hunt {
     /// Whether it is over: each rule is broken, or there were as many plays as there may be.
     fn is_over(&self, way: Way) -> bool {
-        self.open.is_empty() || self.plays >= way.most
+        self.unbroken.is_empty() || self.plays >= way.most
     }
 }
 
@@ -79,7 +78,7 @@ impl Hunt {
 #[derive(Drop)]
 enum Judged {
     /// The journal doesn't break it.
-    Open(RuleLine),
+    Unbroken(RuleLine),
     Found(Found),
 }
 
@@ -95,13 +94,13 @@ fn judge_line(
     requires entries { AllWellFormed plan.now entries.now }
     requires legal { IsLegal plan.now entries.now }
     requires complete { IsComplete plan.now entries.now }
-    ensures { IfOk result (IsJudgedSo taken.now plan.now) }
+    ensures { IfOk result (IsJudgedSo taken.now plan.now entries.now line) }
 {
     let Some(broken) = judge(alloc, plan, &line.rule, entries)? else {
-        return Ok(Judged::Open(line));
+        return Ok(Judged::Unbroken(line));
     };
     if !takes(taken, entries) {
-        return Ok(Judged::Open(line));
+        return Ok(Judged::Unbroken(line));
     }
     let refused = tried.refused.clone()?;
     Ok(Judged::Found(Found {
@@ -115,23 +114,22 @@ fn judge_line(
 /// The rules of a hunt: those that no journal breaks so far, and those that one does.
 #[derive(Drop)]
 struct Lines {
-    open: Vec<RuleLine>,
+    unbroken: Vec<RuleLine>,
     found: Vec<Found>,
 }
 
 /// Adds a rule after a play.
 fn add_judged(lines: &mut Lines, judged: Judged) -> Result<(), OutOfMemory>
-    ensures { OnOk result ((taken : List ℕ) (plan : PlanValue) → IsJudgedSo taken plan judged
-        → All (IsFound taken plan) lines.old.found.items → All (IsFound taken plan) lines.new.found.items) }
+    ensures { OnOk result (IsAdded lines.old judged lines.new) }
 {
     match judged {
-        Judged::Open(line) => lines.open.push(line)?,
+        Judged::Unbroken(line) => lines.unbroken.push(line)?,
         Judged::Found(found) => lines.found.push(found)?,
     }
     Ok(())
 }
 
-/// Judges a journal of a hunt by each rule that is open.
+/// Judges a journal of a hunt by each rule that is unbroken.
 fn judge_lines(
     alloc: Global,
     plan: &Plan,
@@ -143,15 +141,14 @@ fn judge_lines(
     requires entries { AllWellFormed plan.now entries.now }
     requires legal { IsLegal plan.now entries.now }
     requires complete { IsComplete plan.now entries.now }
-    requires found { All (IsFound taken.now plan.now) lines.found.items }
-    ensures { IfOk result (λ after. All (IsFound taken.now plan.now) after.found.items) }
+    ensures { IfOk result (AreJudged taken.now plan.now entries.now lines) }
 {
-    let Lines { open, found } = lines;
+    let Lines { unbroken, found } = lines;
     let mut after = Lines {
-        open: Vec::new(alloc),
+        unbroken: Vec::new(alloc),
         found,
     };
-    for line in open {
+    for line in unbroken {
         let judged = judge_line(alloc, plan, taken, line, tried, entries)?;
         add_judged(&mut after, judged)?;
     }
@@ -174,17 +171,14 @@ fn refusing(alloc: Global, drills: Vec<Drill>) -> RefusingPlant {
     RefusingPlant::new(alloc, refusals)
 }
 
-/// Plays once, and judges the journal by each rule that is open.
+/// Plays once, and judges the journal by each rule that is unbroken.
 fn play(alloc: Global, hunt: Hunt, way: Way, tried: &Try) -> Result<Ran, OutOfMemory>
-    requires { AreFound hunt }
-    ensures plan { IfOk result (λ ran. ran.hunt.plan ≡ hunt.plan) }
-    ensures taken { IfOk result (λ ran. ran.hunt.taken ≡ hunt.taken) }
-    ensures found { IfOk result (λ ran. AreFound ran.hunt) }
+    ensures { IfOk result (λ ran. HuntsOn hunt ran.hunt) }
 {
     let Hunt {
         plan,
         taken,
-        open,
+        unbroken,
         found,
         plays,
         entries,
@@ -192,8 +186,8 @@ fn play(alloc: Global, hunt: Hunt, way: Way, tried: &Try) -> Result<Ran, OutOfMe
     let plant = refusing(alloc, tried.refused.clone()?);
     let (played, _) = play_numbered(alloc, plan, tried.schedule, way.length, plant)?;
     let Played { plan, journal } = played;
-    let before = Lines { open, found };
-    let Lines { open, found } = judge_lines(
+    let before = Lines { unbroken, found };
+    let Lines { unbroken, found } = judge_lines(
         alloc,
         &plan,
         &taken,
@@ -204,7 +198,7 @@ fn play(alloc: Global, hunt: Hunt, way: Way, tried: &Try) -> Result<Ran, OutOfMe
     let hunt = Hunt {
         plan,
         taken,
-        open,
+        unbroken,
         found,
         plays: plays.saturating_add(1),
         entries: entries.saturating_add(journal.len()),
@@ -228,10 +222,7 @@ fn play_order(
     way: Way,
     schedule: u32,
 ) -> Result<Ordered, OutOfMemory>
-    requires { AreFound ordered.hunt }
-    ensures plan { IfOk result (λ after. after.hunt.plan ≡ ordered.hunt.plan) }
-    ensures taken { IfOk result (λ after. after.hunt.taken ≡ ordered.hunt.taken) }
-    ensures found { IfOk result (λ after. AreFound after.hunt) }
+    ensures { IfOk result (λ after. HuntsOn ordered.hunt after.hunt) }
 {
     let Ordered { hunt, mut bases } = ordered;
     if hunt.is_over(way) {
@@ -251,10 +242,7 @@ fn play_order(
 
 /// Plays the first orders without a fault.
 fn play_orders(alloc: Global, hunt: Hunt, way: Way) -> Result<Ordered, OutOfMemory>
-    requires { AreFound hunt }
-    ensures plan { IfOk result (λ after. after.hunt.plan ≡ hunt.plan) }
-    ensures taken { IfOk result (λ after. after.hunt.taken ≡ hunt.taken) }
-    ensures found { IfOk result (λ after. AreFound after.hunt) }
+    ensures { IfOk result (λ after. HuntsOn hunt after.hunt) }
 {
     let mut ordered = Ordered {
         hunt,
@@ -277,10 +265,7 @@ fn refuse_put(
     put: Drill,
     later: &Later,
 ) -> Result<Hunt, OutOfMemory>
-    requires { AreFound hunt }
-    ensures plan { IfOk result (λ after. after.plan ≡ hunt.plan) }
-    ensures taken { IfOk result (λ after. after.taken ≡ hunt.taken) }
-    ensures found { IfOk result (λ after. AreFound after) }
+    ensures { IfOk result (HuntsOn hunt) }
 {
     if hunt.is_over(way) {
         return Ok(hunt);
@@ -302,10 +287,7 @@ fn refuse_order<P: HuntProgress>(
     later: &Later,
     progress: &mut P,
 ) -> Result<Hunt, OutOfMemory>
-    requires { AreFound hunt }
-    ensures plan { IfOk result (λ after. after.plan ≡ hunt.plan) }
-    ensures taken { IfOk result (λ after. after.taken ≡ hunt.taken) }
-    ensures found { IfOk result (λ after. AreFound after) }
+    ensures { IfOk result (HuntsOn hunt) }
 {
     let mut hunt = hunt;
     for put in &base.puts {
@@ -324,10 +306,7 @@ fn refuse_orders<P: HuntProgress>(
     later: &Later,
     progress: &mut P,
 ) -> Result<Hunt, OutOfMemory>
-    requires { AreFound hunt }
-    ensures plan { IfOk result (λ after. after.plan ≡ hunt.plan) }
-    ensures taken { IfOk result (λ after. after.taken ≡ hunt.taken) }
-    ensures found { IfOk result (λ after. AreFound after) }
+    ensures { IfOk result (HuntsOn hunt) }
 {
     let mut hunt = hunt;
     for base in bases {
@@ -344,10 +323,7 @@ fn refuse_all<P: HuntProgress>(
     bases: &[Base],
     progress: &mut P,
 ) -> Result<Hunt, OutOfMemory>
-    requires { AreFound hunt }
-    ensures plan { IfOk result (λ after. after.plan ≡ hunt.plan) }
-    ensures taken { IfOk result (λ after. after.taken ≡ hunt.taken) }
-    ensures found { IfOk result (λ after. AreFound after) }
+    ensures { IfOk result (HuntsOn hunt) }
 {
     let mut hunt = hunt;
     for later in LATER.as_slice() {
@@ -370,14 +346,14 @@ pub fn hunt_in<P: HuntProgress>(
 ) -> Result<Hunt, OutOfMemory>
     ensures plan { IfOk result (λ hunt. hunt.plan ≡ plan) }
     ensures taken { IfOk result (λ hunt. hunt.taken ≡ taken) }
-    ensures found { IfOk result (λ hunt. All (IsFound taken.items plan) hunt.found.items) }
+    ensures hunt { IfOk result (IsHunt rules.items) }
 {
     let (plan, length) = usual_length(alloc, plan, refusing(alloc, Vec::new(alloc)))?;
     let way = Way { most, length };
     let start = Hunt {
         plan,
         taken,
-        open: rules,
+        unbroken: rules,
         found: Vec::new(alloc),
         plays: 0,
         entries: 0,

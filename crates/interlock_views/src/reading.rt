@@ -159,7 +159,7 @@ fn length_of_group(words: &[Word]) -> usize {
 
 /// What stands behind so many words.
 fn words_from<'a, 'b>(words: &'b [Word<'a>], start: usize) -> &'b [Word<'a>] {
-    words.get(start..).unwrap_or(&[])
+    &words[start.min(words.len())..]
 }
 
 /// The words up to the first comma.

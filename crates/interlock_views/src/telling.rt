@@ -1,6 +1,6 @@
 //! What is told of each rule.
 
-use crate::found::{Broken, Found, Whereabouts};
+use crate::found::{Broken, Found, JudgedRule, Whereabouts};
 use crate::words::{Word, words_of};
 use caa_base::written::entry::{Drill, Object, OutOfMemory};
 use caa_base::written::line::push_value;
@@ -201,13 +201,9 @@ impl<'a> Telling<'a> {
     }
 
     /// Says whether the journal behind the script keeps a rule.
-    pub fn say_judged(
-        &self,
-        page: &mut Page,
-        number: u32,
-        judged: &Option<Broken>,
-    ) -> Result<(), OutOfMemory> {
-        match judged {
+    pub fn say_judged(&self, page: &mut Page, rule: &JudgedRule) -> Result<(), OutOfMemory> {
+        let number = rule.line.number;
+        match &rule.broken {
             Some(broken) => self.say_broken_there(page, number, broken),
             None => self.say_head(page, number, &[Piece::Text("kept by this journal")]),
         }

@@ -1,10 +1,5 @@
-use Rattle.std.proofs.Common.{◌≡◌}
-use Rattle.interlock_views.specs.Broken.{AreFound}
+use Rattle.interlock_views.specs.Hunts.{HuntsOn}
 use Rattle.interlock_views.proofs.hunting.refuse_all.Given as goal
 
 abbrev pub invariant-loop-later : goal.invariant-loop-later
-invariant-loop-later g l = record {
-  plan : l.hunt.plan ≡ l.initial.hunt.plan;
-  taken : l.hunt.taken ≡ l.initial.hunt.taken;
-  found : AreFound l.hunt;
-}
+invariant-loop-later g l = HuntsOn l.fn.hunt l.hunt
