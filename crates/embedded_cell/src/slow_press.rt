@@ -2,7 +2,7 @@ ghost use Rattle.std.specs.Prelude.{None};
 
 use crate::stroke::Stroke;
 use caa_base::outside::plant::{Plant, PlantError};
-use caa_base::written::entry::{Drill, Failed, Object};
+use caa_base::written::entry::{Drill, Entry, Failed, Object};
 use std::alloc::Global;
 
 /// A device of our own: a press that begins a stroke at a put, and refuses one while another is under way. It tells no values, as most
@@ -70,6 +70,12 @@ impl<'a> Plant for SlowPress<'a> {
         }
         Err(Failed)
     }
+
+    fn restore(&mut self, object: Object, value: i64) -> Result<(), Failed> {
+        self.put(object, value)
+    }
+
+    fn entered(&mut self, _entry: &Entry) {}
 
     fn lay_faults(&self) -> u64 {
         0

@@ -1,14 +1,16 @@
--- All that a device was ever asked for, as a journal grows.
-use Rattle.std.proofs.Common.{◌≡◌, ◌∙◌, ◌-◌, true, false, List, [], ◌∷◌, ◌++◌, filter, length, map, take, Option, Some, None, refl, ap, sym, arith, length-append}
+-- All that ever came to a device, as a journal grows.
+use Rattle.std.proofs.Common.{◌≡◌, ◌∙◌, ◌-◌, true, false, cond, List, [], ◌∷◌, ◌++◌, length, take, Option, Some, None, refl, ap, sym, arith, length-append}
+use Rattle.std.specs.Option.{option_map}
 use Rattle.std.proofs.Math.Seq.{take-append_seam}
-use Rattle.std.proofs.lemmas.List.{append_assoc, map-append}
+use Rattle.std.proofs.lemmas.List.{append_assoc, append-nil}
+use Rattle.std.proofs.lemmas.Grind.{flat_map-append}
 use Rattle.caa_base.specs.Outside.PlantState.{after_asked}
 use Rattle.caa_base.specs.declared.outside.plant.Asked.{Asked}
+use Rattle.caa_base.specs.declared.outside.plant.Asked.TheVariants as asked
 use Rattle.caa_base.specs.declared.written.entry.Entry.{Entry}
 use Rattle.place_plan.specs.Plans.PlanValue.{Plan}
 use Rattle.place_plan.specs.RulesOfJournals.Attempts.{is_attempt}
-use Rattle.journal_replay.specs.Device.{asked_by, asked_in, laying, history_after, history_before}
-use Rattle.journal_replay.proofs.Filtered.{filter_passed, filter_failed}
+use Rattle.journal_replay.specs.Device.{asked_by, came_with, came_in, laying, history_after, history_before}
 
 -- the front of a list before one element and these more
 front : (xs ys : List Asked) (x : Asked) → take (length (xs ++ x ∷ ys) - length ys - 1) (xs ++ x ∷ ys) ≡ xs
@@ -19,7 +21,7 @@ front xs ys x =
 pub found_again : (plan : Plan) (journal : List Entry) (before : Option (List Asked))
     → history_before journal (history_after plan journal before) ≡ before
 found_again plan journal None = refl
-found_again plan journal (Some h) = ap (λ l. Some l) (front h (asked_in journal) (laying plan true))
+found_again plan journal (Some h) = ap (λ l. Some l) (front h (came_in journal) (laying plan true))
 
 -- a history that goes on from some history goes on from what stood before
 pub goes_on_from : (plan : Plan) (journal : List Entry) (before after : Option (List Asked)) → after ≡ history_after plan journal before
@@ -27,55 +29,53 @@ pub goes_on_from : (plan : Plan) (journal : List Entry) (before after : Option (
 goes_on_from plan journal before after h =
     h ∙ ap (history_after plan journal) (sym (ap (history_before journal) h ∙ found_again plan journal before))
 
--- ---- an entry that asks nothing
+-- ---- one more entry
 
-module _ (plan : Plan) (journal : List Entry) (e : Entry) (plain : is_attempt e ≡ false) where
-  same_asked : asked_in (journal ++ e ∷ []) ≡ asked_in journal
-  same_asked = ap (map asked_by) (filter_failed is_attempt journal e plain)
+-- a history, where it is known, after all this came
+abbrev pub after_all : Option (List Asked) → List Asked → Option (List Asked)
+after_all known more = option_map (λ h. h ++ more) known
 
-  -- what stood before is what it was
-  pub same_history : (history : Option (List Asked)) → history_before (journal ++ e ∷ []) history ≡ history_before journal history
-  same_history None = refl
-  same_history (Some h) = ap (λ (l : List Asked). Some (take (length h - length l - 1) h)) same_asked
+-- what comes with an entry that asks nothing is the entry
+pub came_plain : (e : Entry) (before after : Option (List Asked)) → is_attempt e ≡ false
+    → after ≡ after_asked before (asked.Entered e) → after ≡ after_all before (came_with e)
+came_plain e before after plain told =
+    told ∙ ap (λ b. after_all before (cond b (asked_by e ∷ asked.Entered e ∷ []) (asked.Entered e ∷ []))) (sym plain)
 
-  same_after : (before : Option (List Asked)) → history_after plan journal before ≡ history_after plan (journal ++ e ∷ []) before
-  same_after None = refl
-  same_after (Some h) = ap (λ (l : List Asked). Some (h ++ laying plan true ∷ l)) (sym same_asked)
+-- and with an entry that asks, the put and then the entry
+pub came_asking : (e : Entry) (before after : Option (List Asked)) → is_attempt e ≡ true
+    → after ≡ after_asked (after_asked before (asked_by e)) (asked.Entered e) → after ≡ after_all before (came_with e)
+came_asking e None after asks told = told
+came_asking e (Some h) after asks told =
+    told ∙ ap (λ l. Some l) (append_assoc h (asked_by e ∷ []) (asked.Entered e ∷ [])
+    ∙ ap (λ b. h ++ cond b (asked_by e ∷ asked.Entered e ∷ []) (asked.Entered e ∷ [])) (sym asks))
 
-  pub history_plain : (history : Option (List Asked)) → history ≡ history_after plan journal (history_before journal history)
-      → history ≡ history_after plan (journal ++ e ∷ []) (history_before (journal ++ e ∷ []) history)
-  history_plain history fits =
-      fits ∙ same_after (history_before journal history) ∙ ap (history_after plan (journal ++ e ∷ [])) (sym (same_history history))
+module _ (plan : Plan) (journal : List Entry) (e : Entry) where
+  one_more : came_in (journal ++ e ∷ []) ≡ came_in journal ++ came_with e
+  one_more = flat_map-append came_with journal (e ∷ []) ∙ ap (λ l. came_in journal ++ l) (append-nil (came_with e))
 
--- ---- an entry that asks
-
-module _ (plan : Plan) (journal : List Entry) (e : Entry) (asks : is_attempt e ≡ true) where
-  one_more : asked_in (journal ++ e ∷ []) ≡ asked_in journal ++ asked_by e ∷ []
-  one_more = ap (map asked_by) (filter_passed is_attempt journal e asks) ∙ map-append asked_by (filter is_attempt journal) (e ∷ [])
-
-  -- the history after the attempt is that of the longer journal
+  -- the history after what came with the entry is that of the longer journal
   more_after : (before : Option (List Asked))
-      → after_asked (history_after plan journal before) (asked_by e) ≡ history_after plan (journal ++ e ∷ []) before
+      → after_all (history_after plan journal before) (came_with e) ≡ history_after plan (journal ++ e ∷ []) before
   more_after None = refl
   more_after (Some h) =
       ap (λ (l : List Asked). Some l)
-      (append_assoc h (laying plan true ∷ asked_in journal) (asked_by e ∷ [])
+      (append_assoc h (laying plan true ∷ came_in journal) (came_with e)
       ∙ ap (λ (l : List Asked). h ++ laying plan true ∷ l) (sym one_more))
 
   goes_on : (before after : Option (List Asked)) → before ≡ history_after plan journal (history_before journal before)
-      → after ≡ after_asked before (asked_by e) → after ≡ history_after plan (journal ++ e ∷ []) (history_before journal before)
-  goes_on before after fits asked =
-      asked ∙ ap (λ h. after_asked h (asked_by e)) fits ∙ more_after (history_before journal before)
+      → after ≡ after_all before (came_with e) → after ≡ history_after plan (journal ++ e ∷ []) (history_before journal before)
+  goes_on before after fits came =
+      came ∙ ap (λ h. after_all h (came_with e)) fits ∙ more_after (history_before journal before)
 
   -- what stood before is what it was
-  pub base_asked : (before after : Option (List Asked)) → before ≡ history_after plan journal (history_before journal before)
-      → after ≡ after_asked before (asked_by e) → history_before (journal ++ e ∷ []) after ≡ history_before journal before
-  base_asked before after fits asked =
-      ap (history_before (journal ++ e ∷ [])) (goes_on before after fits asked)
+  pub base_kept : (before after : Option (List Asked)) → before ≡ history_after plan journal (history_before journal before)
+      → after ≡ after_all before (came_with e) → history_before (journal ++ e ∷ []) after ≡ history_before journal before
+  base_kept before after fits came =
+      ap (history_before (journal ++ e ∷ [])) (goes_on before after fits came)
       ∙ found_again plan (journal ++ e ∷ []) (history_before journal before)
 
-  pub history_asked : (before after : Option (List Asked)) → before ≡ history_after plan journal (history_before journal before)
-      → after ≡ after_asked before (asked_by e)
+  pub history_grown : (before after : Option (List Asked)) → before ≡ history_after plan journal (history_before journal before)
+      → after ≡ after_all before (came_with e)
       → after ≡ history_after plan (journal ++ e ∷ []) (history_before (journal ++ e ∷ []) after)
-  history_asked before after fits asked =
-      goes_on_from plan (journal ++ e ∷ []) (history_before journal before) after (goes_on before after fits asked)
+  history_grown before after fits came =
+      goes_on_from plan (journal ++ e ∷ []) (history_before journal before) after (goes_on before after fits came)

@@ -5,6 +5,8 @@ ghost use Rattle.place_plan.specs.RulesOfJournals.Rules.{MayFollow};
 ghost use Rattle.place_plan.specs.RulesOfJournals.Journals.{LegalPast, IsLegal, is_fault, faults_in};
 ghost use Rattle.place_plan.specs.RulesOfJournals.Machine.{Answers, made_fault};
 ghost use Rattle.place_plan.specs.RulesOfJournals.Attempts.{is_attempt};
+ghost use Rattle.place_plan.specs.RulesOfJournals.Entries.{is_of};
+ghost use Rattle.caa_base.specs.declared.written.entry.Kind.TheVariants as kind;
 ghost use Rattle.place_plan.proofs.OnJournals.LegalProp.{LegalPast-prop};
 ghost use Rattle.journal_replay.specs.Device.{HasValues, HasDrills, attempts_in, history_after, laying, WasOnlyLaid};
 ghost use Rattle.journal_replay.specs.inner.DeviceOfHall.{FitsJournal};
@@ -71,7 +73,8 @@ pub struct OpenError<P> {
 
 /// A machine that plays by the records that it keeps of its journal.
 ///
-/// Its plant was asked just what the journal says: once for each write, for each restore and for each refused put, in order.
+/// Its plant was asked just what the journal says: once for each write, for each restore and for each refused put, in order; and it was
+/// told of each entry, right when it was made.
 #[derive(Drop)]
 pub struct Played<P: Plant, R: Records> {
     plan: Plan,
@@ -143,7 +146,7 @@ fn begin<R: Records>(alloc: Global, plan: &Plan) -> Result<(Journal, R), OutOfMe
     Ok((journal, records))
 }
 
-/// Asks a plant for a put, once, and gives the entry for its answer.
+/// Asks a plant for a put, once, and tells it the entry for its answer.
 #[tactic(auto, using(crate::proofs::Telling::goes_on_telling))]
 fn answer_of<P: Plant>(plant: &mut P, well: Entry, fault: Entry) -> Entry
     requires room { P.calls plant.old < P.room plant.old }
@@ -153,7 +156,9 @@ fn answer_of<P: Plant>(plant: &mut P, well: Entry, fault: Entry) -> Entry
     ensures either { (result ≡ well) ⊎ (result ≡ fault) }
     ensures state { P.state plant.new ≡ (if is_fault result then P.state plant.old else after_put (P.state plant.old) well.arg well.value) }
     ensures drilling { P.drilling plant.new ≡ after_try (P.drilling plant.old) well.arg }
-    ensures history { P.history plant.new ≡ after_asked (P.history plant.old) (asked.Put well.arg well.value (not (is_fault result))) }
+    ensures history { P.history plant.new ≡ after_asked
+        (after_asked (P.history plant.old) (asked.Put well.arg well.value (is_of kind.Restore well) (not (is_fault result))))
+        (asked.Entered result) }
     ensures lay_faults { P.lay_faults plant.new ≡ P.lay_faults plant.old }
     ensures tells_state { is_some (P.state plant.new) ≡ is_some (P.state plant.old) }
     ensures tells_drilling { is_some (P.drilling plant.new) ≡ is_some (P.drilling plant.old) }
@@ -167,10 +172,12 @@ fn answer_of<P: Plant>(plant: &mut P, well: Entry, fault: Entry) -> Entry
         Kind::Restore => plant.restore(well.arg, well.value),
         _ => plant.put(well.arg, well.value),
     };
-    match answer {
+    let entry = match answer {
         Ok(()) => well,
         Err(Failed) => fault,
-    }
+    };
+    plant.entered(&entry);
+    entry
 }
 
 /// Whether the hint is of these rounds and this start.
@@ -236,7 +243,7 @@ impl<P: Plant, R: Records> Played<P, R> {
     /// The plan, the plant and the journal, which is legal for the plan. It takes no memory.
     ///
     /// The plant was asked as often since it was laid out as the journal has writes, refused puts and restores. Where it tells all
-    /// that it was ever asked for, that is what it was asked for before, one laying out, and what the journal asks, in order. It has counted
+    /// that ever came to it, that is what came before, one laying out, and each entry, behind the put that it answers for. It has counted
     /// one fault more for each refused put and restore of the journal, as long as its count doesn't stand at its end. Where it
     /// tells its values they are those by the journal, and where it tells its drills it refused just what they name.
     pub fn into_parts(self) -> (Plan, P, Journal)
@@ -263,14 +270,14 @@ impl<P: Plant, R: Records> Played<P, R> {
         (plan, plant, journal)
     }
 
-    /// Adds an entry that doesn't ask the device.
+    /// Adds an entry that doesn't ask the device, and tells the device of it.
     #[inline(always)]
     fn add(&mut self, entry: Entry)
         requires may { MayFollow (plan_in self.old) (reverse (journal_in self.old)) entry }
         requires plain { is_attempt entry ≡ false }
         ensures plan { plan_in self.new ≡ plan_in self.old }
         ensures base { base_in self.new ≡ base_in self.old }
-        ensures plant { plant_in self.new ≡ plant_in self.old }
+        ensures faults { P.faults (plant_in self.new) ≡ P.faults (plant_in self.old) }
         ensures journal { journal_in self.new ≡ journal_in self.old ++ entry ∷ [] }
     {
         is_bounded(&self.plan);
@@ -278,6 +285,7 @@ impl<P: Plant, R: Records> Played<P, R> {
         self.records
             .note(&self.plan, self.journal.as_slice(), &entry);
         self.journal.push(entry);
+        self.plant.entered(&entry);
     }
 
     /// Asks the device for a put, once, and adds the entry for its answer.
@@ -305,7 +313,7 @@ impl<P: Plant, R: Records> Played<P, R> {
         requires may { MayWorkNow (plan_in self.old) (reverse (journal_in self.old)) by work }
         ensures plan { plan_in self.new ≡ plan_in self.old }
         ensures base { base_in self.new ≡ base_in self.old }
-        ensures plant { plant_in self.new ≡ plant_in self.old }
+        ensures faults { P.faults (plant_in self.new) ≡ P.faults (plant_in self.old) }
         ensures unrefused { made_fault result ≡ false }
         ensures answer { Answers (plan_in self.old) (journal_in self.old) (journal_in self.new) by hint result }
     {

@@ -4,7 +4,7 @@ ghost use Rattle.std.specs.Prelude.{◌≡◌, length, None, IfOk};
 ghost use Rattle.caa_base.specs.Outside.Counts.{counted_up};
 
 use caa_base::outside::plant::{Plant, PlantError};
-use caa_base::written::entry::{Drill, Failed, Object, OutOfMemory};
+use caa_base::written::entry::{Drill, Entry, Failed, Object, OutOfMemory};
 use std::alloc::Global;
 
 /// The puts that are refused beside those of the drills.
@@ -119,6 +119,13 @@ impl Plant for RefusingPlant {
         }
         Ok(())
     }
+
+    fn restore(&mut self, object: Object, value: i64) -> Result<(), Failed> {
+        self.put(object, value)
+    }
+
+    #[inline(always)]
+    fn entered(&mut self, _entry: &Entry) {}
 
     fn lay_faults(&self) -> u64 {
         0

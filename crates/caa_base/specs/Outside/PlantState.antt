@@ -1,4 +1,4 @@
--- What a plant is seen as: its values and puts, its drills and tries, and all that it was ever asked for.
+-- What a plant is seen as: its values and puts, its drills and tries, and all that it was ever asked for and told of.
 use Rattle.std.specs.Prelude.{ℕ, ℤ, ◌+◌, Bool, true, false, ◌==◌, ◌&&◌, List, [], ◌∷◌, ◌++◌, replicate, slice_index, slice_set, Option, Result, Ok, Err}
 use Rattle.std.specs.List.{list_any}
 use Rattle.std.specs.Option.{option_map}
@@ -46,7 +46,7 @@ after_try known object = option_map (λ d. record { drills = d.drills; tries = s
 abbrev pub is_drilled : Drilling → ℕ → Bool
 is_drilled drilling object = has_drill drilling.drills object (next_try drilling object)
 
--- all that a plant was ever asked for, where it is known, after it was asked for one thing more
+-- all that a plant was ever asked for and told of, where it is known, after one thing more
 abbrev pub after_asked : Option (List Asked) → Asked → Option (List Asked)
 after_asked known asked = option_map (λ before. before ++ asked ∷ []) known
 

@@ -2,13 +2,13 @@
 //! separate meanings, and a contract that needs the values doesn't ask for the drills. Calls are counted exactly, since a plant
 //! has room for fewer than 2^64 puts.
 
-ghost use Rattle.std.specs.Prelude.{◌≡◌, ◌<◌, ◌+◌, ℕ, List, Option, None, length, is_some, is_ok, is_err, IfSome, OnOk, OnErr};
+ghost use Rattle.std.specs.Prelude.{◌≡◌, ◌<◌, ◌+◌, ℕ, true, false, List, [], Option, None, length, is_some, is_ok, is_err, IfSome, OnOk, OnErr};
 ghost use Rattle.caa_base.specs.Outside.Counts.{CountsFault};
 ghost use Rattle.caa_base.specs.Outside.PlantState.{PlantState, Drilling, after_lay, after_put, after_drills, after_try, after_asked, is_drilled, is_refused};
 ghost use Rattle.caa_base.specs.declared.outside.plant.Asked.{Asked as WasAsked};
 ghost use Rattle.caa_base.specs.declared.outside.plant.Asked.TheVariants as asked;
 
-use crate::written::entry::{Drill, Failed, Object, OutOfMemory};
+use crate::written::entry::{Drill, Entry, Failed, Object, OutOfMemory};
 use std::alloc::Global;
 use std::collections::LinkedList;
 use thiserror::Error;
@@ -34,7 +34,8 @@ impl From<OutOfMemory> for PlantError {
     }
 }
 
-/// What a device was asked for, and whether it did it. Contracts speak of it; no value of it is made.
+/// What came to a device: what it was asked for, and whether it did it; and each entry of the journal that it was told of.
+/// Contracts speak of it; no value of it is made.
 #[derive(Drop)]
 pub enum Asked {
     /// To be laid out with these values and drills, and with room for so many puts.
@@ -44,11 +45,16 @@ pub enum Asked {
         puts: u64,
         done: bool,
     },
-    /// To bring an object to a value.
+    /// To bring an object to a value: by a step, or `back` to it in an undo.
     Put {
         object: Object,
         value: i64,
+        back: bool,
         done: bool,
+    },
+    /// This entry stands in the journal.
+    Entered {
+        entry: Entry,
     },
 }
 
@@ -66,7 +72,7 @@ pub trait Plant {
     /// The drills, and how many puts of each object were tried, where the plant tells them.
     ghost drilling: { Self → Option Drilling } = { λ _. None };
 
-    /// All that it was ever asked for, the oldest first, where the plant tells it. Nothing sets it back.
+    /// All that it was ever asked for and told of, the oldest first, where the plant tells it. Nothing sets it back.
     ghost history: { Self → Option (List WasAsked) } = { λ _. None };
 
     /// How many calls of `put` came since the plant was laid out.
@@ -77,6 +83,9 @@ pub trait Plant {
 
     /// How many objects have a value.
     ghost objects: { Self → ℕ };
+
+    /// What it calls its objects, the first one first, where the plant tells it. No call changes that.
+    ghost labels: { Self → List (List ℕ) } = { λ _. [] };
 
     /// Lays out the values of the objects, those puts that are to be refused, and room for this
     /// many calls of `put`. Whether the plant tells its state or its drilling is never changed.
@@ -100,7 +109,8 @@ pub trait Plant {
         ensures tells_state { is_some (state self.new) ≡ is_some (state self.old) }
         ensures tells_drilling { is_some (drilling self.new) ≡ is_some (drilling self.old) }
         ensures count { CountsFault (is_refused result) (lay_faults self.old) (lay_faults self.new) }
-        ensures put_faults { faults self.new ≡ faults self.old };
+        ensures put_faults { faults self.new ≡ faults self.old }
+        ensures labels { labels self.new ≡ labels self.old };
 
     /// Sets the value of an object. A put that fails is counted, and leaves the value.
     ///
@@ -113,15 +123,16 @@ pub trait Plant {
         ensures failed { OnErr result (state self.new ≡ state self.old) }
         ensures drilled { IfSome (drilling self.old) (λ d. is_err result ≡ is_drilled d object) }
         ensures drilling { drilling self.new ≡ after_try (drilling self.old) object }
-        ensures history { history self.new ≡ after_asked (history self.old) (asked.Put object value (is_ok result)) }
+        ensures history { history self.new ≡ after_asked (history self.old) (asked.Put object value false (is_ok result)) }
         ensures calls { calls self.new ≡ calls self.old + 1 }
         ensures room { room self.new ≡ room self.old }
         ensures objects { objects self.new ≡ objects self.old }
         ensures count { CountsFault (is_err result) (faults self.old) (faults self.new) }
-        ensures lay_faults { lay_faults self.new ≡ lay_faults self.old };
+        ensures lay_faults { lay_faults self.new ≡ lay_faults self.old }
+        ensures labels { labels self.new ≡ labels self.old };
 
-    /// The same put, by which an action that is undone brings an object back. A device that takes an undo in another way than a
-    /// step, more slowly or with its drives at half power, writes this call; any other is put.
+    /// The same put, by which an action that is undone brings an object back. A device may take an undo in another way than a step,
+    /// more slowly or with its drives at half power.
     fn restore(&mut self, object: Object, value: i64) -> Result<(), Failed>
         requires room { calls self.old < room self.old }
         requires laid { object < objects self.old }
@@ -129,15 +140,26 @@ pub trait Plant {
         ensures failed { OnErr result (state self.new ≡ state self.old) }
         ensures drilled { IfSome (drilling self.old) (λ d. is_err result ≡ is_drilled d object) }
         ensures drilling { drilling self.new ≡ after_try (drilling self.old) object }
-        ensures history { history self.new ≡ after_asked (history self.old) (asked.Put object value (is_ok result)) }
+        ensures history { history self.new ≡ after_asked (history self.old) (asked.Put object value true (is_ok result)) }
         ensures calls { calls self.new ≡ calls self.old + 1 }
         ensures room { room self.new ≡ room self.old }
         ensures objects { objects self.new ≡ objects self.old }
         ensures count { CountsFault (is_err result) (faults self.old) (faults self.new) }
         ensures lay_faults { lay_faults self.new ≡ lay_faults self.old }
-    {
-        self.put(object, value)
-    }
+        ensures labels { labels self.new ≡ labels self.old };
+
+    /// Tells the plant of an entry, right when it stands in the journal: behind the put that it is the answer to, and before any
+    /// further one. A device that writes its log here writes it as the machine moves.
+    fn entered(&mut self, entry: &Entry)
+        ensures state { state self.new ≡ state self.old }
+        ensures drilling { drilling self.new ≡ drilling self.old }
+        ensures history { history self.new ≡ after_asked (history self.old) (asked.Entered entry.now) }
+        ensures calls { calls self.new ≡ calls self.old }
+        ensures room { room self.new ≡ room self.old }
+        ensures objects { objects self.new ≡ objects self.old }
+        ensures faults { faults self.new ≡ faults self.old }
+        ensures lay_faults { lay_faults self.new ≡ lay_faults self.old }
+        ensures labels { labels self.new ≡ labels self.old };
 
     /// How many calls of `lay` failed so far.
     fn lay_faults(&self) -> u64

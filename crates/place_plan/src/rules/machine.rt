@@ -36,8 +36,10 @@ pub enum Answer {
 /// What stands before a play, and stays as it is. Contracts speak of it; no value of it is made.
 #[derive(Drop)]
 pub struct Base {
-    /// All that the device had been asked for before it was laid out for the play, where it tells that.
+    /// All that had come to the device before it was laid out for the play, where it tells that.
     pub history: Option<LinkedList<Asked>>,
+    /// What the device calls its objects, where it tells that.
+    pub labels: LinkedList<LinkedList<u8>>,
     /// How many faults the device had counted before the play.
     pub faults: u64,
     /// How often the device had refused to be laid out.
@@ -50,10 +52,10 @@ pub struct Base {
 
 /// A plan that is played entry by entry.
 ///
-/// Contracts see its plan, its journal, its base and a count of the device's faults. The base is what the device had been asked for
-/// before the play, its counts as they stood then, and whether it tells its values and its drills. The journal is legal at all times. The plan and the base stay as
-/// they are, so what the device told before it goes on telling. The count goes up by one as a refused put or restore is entered,
-/// unless it stands at its end, and at no other time. No call takes memory.
+/// Contracts see its plan, its journal, its base and a count of the device's faults. The base is what had come to the device before the
+/// play, its names for its objects, its counts as they stood then, and whether it tells its values and its drills. The journal is legal at
+/// all times. The plan and the base stay as they are, so what the device told before it goes on telling. The count goes up by one as a
+/// refused put or restore is entered, unless it stands at its end, and at no other time. No call takes memory.
 pub trait Machine {
     ghost plan_of: { Self → PlanValue };
 

@@ -7,7 +7,7 @@ use crate::outside::count::counted_up;
 use crate::outside::memory::drills::Drills;
 use crate::outside::memory::sure_plant::SurePlant;
 use crate::outside::plant::{Plant, PlantError};
-use crate::written::entry::{Drill, Failed, Object};
+use crate::written::entry::{Drill, Entry, Failed, Object};
 use std::alloc::Global;
 use std::marker::Model;
 
@@ -148,6 +148,15 @@ impl Plant for MemPlant {
         self.plant.set(object, value);
         Ok(())
     }
+
+    fn restore(&mut self, object: Object, value: i64) -> Result<(), Failed> {
+        self.put(object, value)
+    }
+
+    #[inline(always)]
+    fn entered(&mut self, _entry: &Entry)
+        ensures { self.new ≡ self.old }
+    {}
 
     fn lay_faults(&self) -> u64 {
         self.lay_faults

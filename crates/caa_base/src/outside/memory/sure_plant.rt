@@ -4,7 +4,7 @@ ghost use Rattle.caa_base.specs.Outside.PlantState.{after_put};
 
 use crate::outside::memory::laid::Laid;
 use crate::outside::plant::{Plant, PlantError};
-use crate::written::entry::{Drill, Failed, Object, OutOfMemory};
+use crate::written::entry::{Drill, Entry, Failed, Object, OutOfMemory};
 use std::alloc::Global;
 use std::marker::Model;
 
@@ -140,6 +140,15 @@ impl Plant for SurePlant {
         self.set(object, value);
         Ok(())
     }
+
+    fn restore(&mut self, object: Object, value: i64) -> Result<(), Failed> {
+        self.put(object, value)
+    }
+
+    #[inline(always)]
+    fn entered(&mut self, _entry: &Entry)
+        ensures { self.new ≡ self.old }
+    {}
 
     fn lay_faults(&self) -> u64 {
         0
