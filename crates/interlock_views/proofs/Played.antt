@@ -1,5 +1,5 @@
 -- What a hunt says after one more play.
-use Rattle.std.proofs.Common.{◌≡◌, ℕ, ◌+◌, ◌≤◌, List, [], ◌∷◌, ◌++◌, length, refl, sym, ◌∙◌, subst, inl, inr, arith, length-append, ⊥}
+use Rattle.std.proofs.Common.{◌≡◌, ℕ, ◌+◌, ◌≤◌, List, [], ◌∷◌, ◌++◌, length, refl, sym, ap, ◌∙◌, subst, inl, inr, arith, length-append, Vec, Global}
 use Rattle.std.specs.List.{All, Contains}
 use Rattle.std.proofs.lemmas.List.Elements.{All-push, All-contains, All-contains_itself, All-weaker, All-nil, All-same}
 use Rattle.caa_base.specs.declared.written.entry.Entry.{Entry}
@@ -38,6 +38,7 @@ played_on before after journal same_plan same_taken plays play judged = record {
   taken = same_taken;
   hunt = λ rules h.
       let taken = before.taken.items in
+      let same_items : after.taken.items ≡ before.taken.items = ap (λ (v : Vec ℕ Global). v.items) same_taken in
       let lines : Lines = record { unbroken = before.unbroken; found = before.found } in
       let unbroken = All-weaker (IsUnbrokenStill taken before.plan journal lines) (IsUnbroken rules taken before.plan (h.played ++ journal ∷ []))
       (still_unbroken rules taken before.plan h.played journal lines h.unbroken) after.unbroken.items judged.unbroken in
@@ -47,9 +48,9 @@ played_on before after journal same_plan same_taken plays play judged = record {
         played = h.played ++ journal ∷ [];
         plays = omega (arith, h.plays, plays, length-append h.played (journal ∷ []));
         legal = subst (λ p. All (IsPlay p) (h.played ++ journal ∷ [])) (sym same_plan) (All-push (IsPlay before.plan) h.played journal h.legal play);
-        found = subst (λ t. All (IsFoundOf rules t.items after.plan) after.found.items) (sym same_taken)
+        found = subst (λ t. All (IsFoundOf rules t after.plan) after.found.items) (sym same_items)
             (subst (λ p. All (IsFoundOf rules taken p) after.found.items) (sym same_plan) found);
-        unbroken = subst (λ t. All (IsUnbroken rules t.items after.plan (h.played ++ journal ∷ [])) after.unbroken.items) (sym same_taken)
+        unbroken = subst (λ t. All (IsUnbroken rules t after.plan (h.played ++ journal ∷ [])) after.unbroken.items) (sym same_items)
             (subst (λ p. All (IsUnbroken rules taken p (h.played ++ journal ∷ [])) after.unbroken.items) (sym same_plan) unbroken);
         all = omega (arith, h.all, judged.all);
       };
