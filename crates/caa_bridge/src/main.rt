@@ -11,13 +11,10 @@ mod watcher;
 use crate::call::{Asked, Call, asked_by};
 use crate::endings::Endings;
 use crate::files::{files_of, keep_streams};
-use crate::serving::serve;
+use crate::serving::{Serving, serve};
 use crate::telling::{tell_file_error, tell_plays, tell_status};
 use crate::watcher::Watcher;
-use action_script::lines::reader::read;
-use action_script::script_error::ScriptCause;
 use action_script::words::call_words::call_words;
-use caa_base::outside::memory::SureSource;
 use caa_base::outside::reading::write_all;
 use caa_base::outside::standard::{StdSink, StdSource};
 use caa_base::written::entry::OutOfMemory;
@@ -25,21 +22,12 @@ use caa_commands::logged_top::LoggedEnd;
 use caa_commands::status::Status;
 use entry_log::file_sink::FileSink;
 use line_plant::flushed::FlushedSink;
-use line_plant::noted::Noted;
-use line_plant::plant::LinePlant;
-use place_plan::plans::plan::Plan;
-use script_checker::check_error::CheckCause;
-use script_checker::compile::compile;
-use std::alloc::Global;
 use std::fs::File;
-use std::io::{BufWriter, IsTerminal, Stderr, Stdin, Stdout};
+use std::io::{BufWriter, IsTerminal};
 use std::process::ExitCode;
 use std::sync::Wait;
 use std::sync::atomic::AtomicBool;
 use std::thread::Threads;
-
-/// The device that answers on standard input what it is asked on standard output, with an operator at standard error.
-type Device<'a> = Noted<'a, StdSource<Stdin>, FlushedSink<BufWriter<Stdout>>, Stderr>;
 
 /// After how many entries it is told how far all is, where standard error is a terminal.
 const TOLD_EACH: u64 = 100;
@@ -67,38 +55,6 @@ const NO_ENDINGS: &[u8] = b"there isn't memory enough to tell how the plays ende
 /// Its name, its version, and the commit that it was built from: zeros, until `./build_caa` has written twelve digits there.
 const VERSION: &[u8] = b"caa_bridge 1.0, commit 000000000000\n";
 
-/// The plan of the script that these bytes spell; none where there is no such script, which is then not played.
-fn plan_in(alloc: Global, bytes: &[u8]) -> Result<Option<Plan>, OutOfMemory> {
-    let script = match read(alloc, bytes) {
-        Ok(script) => script,
-        Err(error) if error.cause == ScriptCause::OutOfMemory => return Err(OutOfMemory),
-        Err(_) => return Ok(None),
-    };
-    match compile(alloc, &script) {
-        Ok(plan) => Ok(Some(plan)),
-        Err(error) if error.cause == CheckCause::OutOfMemory => Err(OutOfMemory),
-        Err(_) => Ok(None),
-    }
-}
-
-/// The device on standard output and input, for this plan.
-fn device_for<'a>(
-    rt: &HostRuntime,
-    plan: &Option<Plan>,
-    is_over: &'a AtomicBool,
-) -> Result<Device<'a>, OutOfMemory> {
-    let Ok(commands) = BufWriter::new(rt.alloc(), rt.stdout()) else {
-        return Err(OutOfMemory);
-    };
-    let answers = StdSource::new(rt.stdin());
-    let commands = FlushedSink::new(commands);
-    let plant = match plan {
-        Some(plan) => LinePlant::for_plan(rt.alloc(), plan, answers, commands)?,
-        None => LinePlant::new(rt.alloc(), Vec::new(rt.alloc()), answers, commands),
-    };
-    Ok(Noted::new(plant, rt.stderr(), is_over))
-}
-
 /// Plays the script of these bytes, tells the operator what became of it, and gives the program's status.
 fn play_on<R: Threads + Wait + Sync>(
     threads: &R,
@@ -109,27 +65,29 @@ fn play_on<R: Threads + Wait + Sync>(
 ) -> Result<u8, OutOfMemory> {
     let alloc = rt.alloc();
     let is_over = AtomicBool::new(false);
-    let plan = plan_in(alloc, script)?;
-    let device = device_for(rt, &plan, &is_over)?;
-    let mut source = SureSource::new(alloc, script)?;
+    let Ok(commands) = BufWriter::new(alloc, rt.stdout()) else {
+        return Err(OutOfMemory);
+    };
     let mut operator = rt.stderr();
     let each = if operator.is_terminal() { TOLD_EACH } else { 0 };
-    let watcher = Watcher::new(rt.stderr(), &is_over, call.goes_on, each);
-    let sink = FileSink::new(file, call.syncs);
+    let Serving { end, plan } = serve(
+        threads,
+        alloc,
+        call.command,
+        script,
+        StdSource::new(rt.stdin()),
+        FlushedSink::new(commands),
+        rt.stderr(),
+        &is_over,
+        FileSink::new(file, call.syncs),
+        Watcher::new(rt.stderr(), &is_over, call.goes_on, each),
+    )?;
     let LoggedEnd {
         status,
         plant: mut device,
         journal,
         sink: _,
-    } = serve(
-        threads,
-        alloc,
-        call.command,
-        &mut source,
-        sink,
-        device,
-        watcher,
-    );
+    } = end;
     device.heed();
     tell_status(&mut operator, status, call, !journal.is_empty());
     Ok(match plan {

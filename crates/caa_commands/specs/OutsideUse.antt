@@ -42,8 +42,8 @@ sink_use ghosts before after = record {
   faults_after = ghosts.faults after;
 }
 
--- a device before and now; its values and puts, its drills and tries, and all that it was ever asked for, where it tells them,
--- before and now; how often it was asked, how often it refused that, and how often it refused to be laid out, before and now
+-- a device before and now; its values and puts, its drills and tries, its names for its objects, and all that ever came to it, where it
+-- tells them, before and now; how often it was asked, how often it refused that, and how often it refused to be laid out, before and now
 pub record PlantUse (P : Type 0) : Type 0 where
   pub before : P
   pub after : P
@@ -51,6 +51,8 @@ pub record PlantUse (P : Type 0) : Type 0 where
   pub state : Option PlantState
   pub drilling_before : Option Drilling
   pub drilling : Option Drilling
+  pub labels_before : List (List ℕ)
+  pub labels : List (List ℕ)
   pub history_before : Option (List Asked)
   pub history : Option (List Asked)
   pub calls_before : ℕ
@@ -69,6 +71,8 @@ plant_use ghosts before after = record {
   state = ghosts.state after;
   drilling_before = ghosts.drilling before;
   drilling = ghosts.drilling after;
+  labels_before = ghosts.labels before;
+  labels = ghosts.labels after;
   history_before = ghosts.history before;
   history = ghosts.history after;
   calls_before = ghosts.calls before;
@@ -79,10 +83,11 @@ plant_use ghosts before after = record {
   lay_faults_after = ghosts.lay_faults after;
 }
 
--- the device tells its values now where it told them before, and so with its drills
+-- the device tells its values now where it told them before, and so with its drills, and calls its objects what it called them
 pub record TellsAsBefore {P : Type 0} (plant : PlantUse P) : Type 0 where
   pub values : is_some plant.state ≡ is_some plant.state_before
   pub drills : is_some plant.drilling ≡ is_some plant.drilling_before
+  pub labels : plant.labels ≡ plant.labels_before
 
 -- what a call leaves: the device as it used it, and the journal that it hands back
 pub record Left (P : Type 0) : Type 0 where

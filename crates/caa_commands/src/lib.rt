@@ -12,7 +12,7 @@ mod logged_serving;
 pub mod logged_top;
 mod logging;
 mod playing;
-mod scripts;
+pub mod scripts;
 mod serving;
 pub mod status;
 pub mod top;

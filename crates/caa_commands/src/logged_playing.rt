@@ -43,6 +43,7 @@ fn open_both<P: Plant, K: Sink + Drop>(
     ensures lay_base { IfOk result (λ o. (base_in o.0).lay_faults ≡ P.lay_faults plant) }
     ensures tells_state { IfOk result (λ o. (base_in o.0).tells_values ≡ is_some (P.state plant)) }
     ensures tells_drilling { IfOk result (λ o. (base_in o.0).tells_drills ≡ is_some (P.drilling plant)) }
+    ensures labels { IfOk result (λ o. (base_in o.0).labels ≡ P.labels plant) }
     ensures count { IfOk result (λ o. P.faults (plant_in o.0) ≡ P.faults plant) }
     ensures told { IfOk result (λ o. Tells ⟦<K as Sink>⟧ o.1 plan []) }
     ensures refused { IfErr result (λ l. DoesNotBegin plan l.decision.finding

@@ -82,6 +82,7 @@ pub fn open<P: Plant>(alloc: Global, plan: Plan, plant: P) -> Result<Hall<P>, De
     ensures lay_base { IfOk result (λ hall. (base_in hall).lay_faults ≡ P.lay_faults plant) }
     ensures tells_state { IfOk result (λ hall. (base_in hall).tells_values ≡ is_some (P.state plant)) }
     ensures tells_drilling { IfOk result (λ hall. (base_in hall).tells_drills ≡ is_some (P.drilling plant)) }
+    ensures labels { IfOk result (λ hall. (base_in hall).labels ≡ P.labels plant) }
     ensures count { IfOk result (λ hall. P.faults (plant_in hall) ≡ P.faults plant) }
     ensures lay_count { IfOk result (λ hall. P.lay_faults (plant_in hall) ≡ P.lay_faults plant) }
     ensures refused { IfErr result (λ decision.
@@ -222,6 +223,7 @@ pub fn unplayed<P: Plant>(hall: Hall<P>) -> Decision<P>
     ensures history { P.history result.plant ≡ history_after (plan_in hall) (journal_in hall) (base_in hall).history }
     ensures tells_state { is_some (P.state result.plant) ≡ (base_in hall).tells_values }
     ensures tells_drilling { is_some (P.drilling result.plant) ≡ (base_in hall).tells_drills }
+    ensures labels { P.labels result.plant ≡ (base_in hall).labels }
 {
     let (_, plant, journal) = hall.into_parts();
     Decision {

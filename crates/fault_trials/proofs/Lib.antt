@@ -1,2 +1,4 @@
+pub mod Alone
 pub mod Fronts
 pub mod Lines
+pub mod Measured

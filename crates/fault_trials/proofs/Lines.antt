@@ -1,5 +1,5 @@
 -- What a table still tells as it grows.
-use Rattle.std.proofs.Common.{◌≡◌, ◌∙◌, ℕ, zero, suc, ◌+◌, ◌<◌, true, false, List, [], ◌∷◌, ◌++◌, refl, ap, sym, subst, length, reverse, take, get_or, arith, below_more}
+use Rattle.std.proofs.Common.{◌≡◌, ◌∙◌, ℕ, zero, suc, ◌+◌, ◌<◌, ◌≤◌, true, false, List, [], ◌∷◌, ◌++◌, refl, ap, sym, subst, length, reverse, take, get_or, arith, below_more}
 use Rattle.std.specs.Prelude.{Some, slice_get}
 use Rattle.std.proofs.lemmas.List.{get_or_default}
 use Rattle.std.specs.List.{All, Contains}
@@ -9,9 +9,11 @@ use Rattle.std.proofs.lemmas.Option.{slice_get_within}
 use Rattle.caa_base.specs.declared.written.entry.Entry.{Entry}
 use Rattle.place_plan.specs.Plans.PlanValue.{Plan}
 use Rattle.place_plan.specs.Plans.Places.{top_of}
-use Rattle.place_plan.specs.RulesOfJournals.Journals.{IsLegal, IsComplete, is_put}
+use Rattle.place_plan.specs.RulesOfJournals.Journals.{IsLegal, IsComplete, is_put, faults_in}
 use Rattle.fault_trials.specs.Puts.{RefusedAt, IsPutAt, HasNoPutAt, spot_of}
 use Rattle.fault_trials.specs.Classes.{Measure, class_of}
+use Rattle.fault_trials.proofs.Alone.{refused_alone}
+use Rattle.fault_trials.specs.Measures.{IsMeasured}
 use Rattle.fault_trials.specs.Tables.{Grown, Added, Tells, IsTried, TriesAt, AllTried, IsWhole, Tabled}
 use Rattle.fault_trials.specs.declared.modes.Class.{Class}
 use Rattle.fault_trials.specs.declared.modes.Mode.{Mode}
@@ -20,6 +22,7 @@ use Rattle.fault_trials.specs.declared.modes.Spot.{Spot}
 use Rattle.fault_trials.specs.declared.puts.Put.{Put}
 use Rattle.fault_trials.specs.declared.trials.Base.{Base}
 use Rattle.fault_trials.specs.declared.trials.Line.{Line}
+use Rattle.fault_trials.specs.declared.trials.Question.{Question}
 
 -- ---- growing
 
@@ -66,6 +69,7 @@ tried_later plan m old new base i put grown so = record {
   legal = so.legal;
   complete = so.complete;
   refused = so.refused;
+  alone = so.alone;
   told = told_later old new (spot_of plan (reverse (take i base)) put) (class_of plan m so.tried (top_of plan put.place)) grown so.told;
 }
 
@@ -82,9 +86,9 @@ all_later plan m old new base grown so = record { each = λ i. tries_later plan 
 -- a put was tried by this journal, and its line was added
 pub once_tried : (plan parted : Plan) (m : Measure) (old new : List Line) (base tried : List Entry) (i : ℕ) (put : Entry)
     (spot : Spot) (way : Mode) (place : ℕ) → parted ≡ plan → IsLegal plan tried → IsComplete plan tried → RefusedAt base tried i put
-    → spot ≡ spot_of plan (reverse (take i base)) put → way ≡ mode.Once → place ≡ put.place
+    → faults_in tried ≤ 1 → spot ≡ spot_of plan (reverse (take i base)) put → way ≡ mode.Once → place ≡ put.place
     → Added old new spot way (class_of parted m tried (top_of parted place)) → IsTried plan m new base i put
-once_tried plan parted m old new base tried i put spot way place same legal complete refused is_spot is_once is_place one =
+once_tried plan parted m old new base tried i put spot way place same legal complete refused few is_spot is_once is_place one =
     let here : Added old new spot way (class_of plan m tried (top_of plan place)) =
     subst (λ p. Added old new spot way (class_of p m tried (top_of p place))) same one in
     let of_place : Added old new spot way (class_of plan m tried (top_of plan put.place)) =
@@ -96,6 +100,7 @@ once_tried plan parted m old new base tried i put spot way place same legal comp
       legal = legal;
       complete = complete;
       refused = refused;
+      alone = refused_alone base tried i put refused few;
       told = added_told old new _ _
           (subst (λ s. Added old new s mode.Once (class_of plan m tried (top_of plan put.place))) is_spot of_mode);
     }
@@ -157,9 +162,10 @@ all_one P x h (suc k) d low = absurd (omega arith)
 
 -- one legal and complete journal more
 pub whole_more : (plan played : Plan) (old new : List Base) (base : Base) → played ≡ plan → new ≡ old ++ base ∷ []
-    → All (IsWhole plan) old → IsLegal plan base.journal.entries → IsComplete plan base.journal.entries → All (IsWhole played) new
-whole_more plan played old new base same added so legal complete =
-    let one : IsWhole plan base = record { legal = legal; complete = complete } in
+    → All (IsWhole plan) old → IsLegal plan base.journal.entries → IsComplete plan base.journal.entries
+    → faults_in base.journal.entries ≡ 0 → All (IsWhole played) new
+whole_more plan played old new base same added so legal complete unrefused =
+    let one : IsWhole plan base = record { legal = legal; complete = complete; unrefused = unrefused } in
     let all : All (IsWhole plan) (old ++ base ∷ []) =
     All-append (IsWhole plan) old (base ∷ []) so (all_one (IsWhole plan) base one) in
     subst (λ p. All (IsWhole p) new) (sym same) (subst (All (IsWhole plan)) (sym added) all)
@@ -168,13 +174,17 @@ pub whole_none : (plan : Plan) (bases : List Base) → bases ≡ [] → All (IsW
 whole_none plan bases none = λ k d low. absurd (let nothing : length bases ≡ 0 = ap length none in omega (arith, nothing))
 
 -- a table of the puts of these journals
-pub tabled : (plan played : Plan) (m : Measure) (lines : List Line) (bases seen : List Base) (count : ℕ) → played ≡ plan → seen ≡ bases
-    → length bases ≡ count → All (IsWhole played) bases → All (λ base. AllTried played m lines base.journal.entries) seen
-    → Tabled plan m lines count
-tabled plan played m lines bases seen count same is all whole tried = record {
+pub tabled : (plan played : Plan) (question : Question) (m : Measure) (lines : List Line) (bases seen : List Base) → played ≡ plan
+    → seen ≡ bases → length bases ≡ question.schedules → All (IsWhole played) bases → m.off ≡ question.off.items
+    → m.counted ≡ question.counted.items → IsMeasured played m bases
+    → All (λ base. AllTried played m lines base.journal.entries) seen → Tabled plan question m lines
+tabled plan played question m lines bases seen same is all whole off counted measured tried = record {
   bases = bases;
   all = all;
   whole = subst (λ p. All (IsWhole p) bases) same whole;
+  off = off;
+  counted = counted;
+  measured = subst (λ p. IsMeasured p m bases) same measured;
   tried = subst (λ p. All (λ base. AllTried p m lines base.journal.entries) bases) same
       (subst (All (λ base. AllTried played m lines base.journal.entries)) is tried);
 }

@@ -1,3 +1,4 @@
 pub mod Puts
 pub mod Classes
+pub mod Measures
 pub mod Tables

@@ -6,6 +6,7 @@ pub mod effects;
 pub mod endings;
 pub mod measure;
 pub mod modes;
+pub mod once_plant;
 pub mod puts;
 pub mod trials;
 pub mod try_error;

@@ -1,12 +1,14 @@
 //! How plays end as long as the device refuses nothing, and what of the others is told as away.
 
-ghost use Rattle.std.specs.Prelude.{◌≡◌, ◌==◌, true, false, not, ◌&&◌, ◌||◌};
+ghost use Rattle.std.specs.Prelude.{◌≡◌, ◌==◌, true, false, not, ◌&&◌, ◌||◌, [], OnOk};
 ghost use Rattle.std.specs.List.{list_any};
 ghost use Rattle.caa_base.specs.Written.Lists.{member};
 ghost use Rattle.fault_trials.specs.Classes.{is_same_left, is_same_way, is_usual, is_way, is_away, is_short, has_to_be_off, is_left, has_left, is_strange, has_strange};
+ghost use Rattle.place_plan.specs.RulesOfJournals.Journals.{ends_play};
+ghost use Rattle.rehearsals.specs.Facts.{value_in};
+ghost use Rattle.fault_trials.specs.Measures.{IsAddedOnce, GrewBy, IsLeftBy, IsWayBy, IsLeftIn, IsWayIn};
 
 use caa_base::written::entry::{Entry, Kind, Object, OutOfMemory, Place};
-use caa_base::written::journal::Journal;
 use place_plan::plans::plan::Plan;
 use rehearsals::facts::{note_put, value_in};
 use std::alloc::Global;
@@ -91,7 +93,12 @@ fn is_among(objects: &[Object], object: Object) -> bool
 impl Measure {
     /// No play was seen. The objects that have to be off are these, or all where there are none; those that are counted up are left
     /// aside.
-    pub fn new(alloc: Global, off: Vec<Object>, counted: Vec<Object>) -> Self {
+    pub fn new(alloc: Global, off: Vec<Object>, counted: Vec<Object>) -> Self
+        ensures off { result.off ≡ off.items }
+        ensures counted { result.counted ≡ counted.items }
+        ensures lefts { result.lefts ≡ [] }
+        ensures ways { result.ways ≡ [] }
+    {
         Measure {
             lefts: Vec::new(alloc),
             ways: Vec::new(alloc),
@@ -191,84 +198,135 @@ impl Measure {
 }
 
 /// Adds a value at the end of a play, unless it is among these.
-fn add_left(lefts: &mut Vec<Left>, left: Left) -> Result<(), OutOfMemory> {
-    if !is_usual(lefts, &left) {
-        lefts.push(left)?;
+#[tactic(auto, using(crate::proofs::Measured::stays_once, crate::proofs::Measured::added_once))]
+fn add_left(lefts: &mut Vec<Left>, left: Left) -> Result<(), OutOfMemory>
+    ensures { OnOk result (IsAddedOnce lefts.old.items lefts.new.items left) }
+{
+    if is_usual(lefts, &left) {
+        return Ok(());
     }
+    lefts.push(left)?;
     Ok(())
 }
 
 /// Adds an end of a play, unless it is among these.
-fn add_way(ways: &mut Vec<Way>, way: Way) -> Result<(), OutOfMemory> {
-    if !is_known_way(ways, &way) {
-        ways.push(way)?;
+#[tactic(auto, using(crate::proofs::Measured::stays_once, crate::proofs::Measured::added_once))]
+fn add_way(ways: &mut Vec<Way>, way: Way) -> Result<(), OutOfMemory>
+    ensures { OnOk result (IsAddedOnce ways.old.items ways.new.items way) }
+{
+    if is_known_way(ways, &way) {
+        return Ok(());
     }
+    ways.push(way)?;
     Ok(())
+}
+
+/// How an object is left by the end of a play, with the values as they are then.
+fn left_by(ending: &Entry, values: &[i64], object: Object) -> Left
+    ensures play { result.play ≡ ending.now.place }
+    ensures object { result.object ≡ object }
+    ensures value { result.value ≡ value_in values.now object }
+{
+    Left {
+        play: ending.place,
+        object,
+        value: value_in(values, object),
+    }
 }
 
 /// Adds the values of these objects at the end of a play.
 fn add_lefts(
     lefts: &mut Vec<Left>,
-    objects: &[Object],
-    play: Place,
+    plan: &Plan,
+    ending: &Entry,
     values: &[i64],
-) -> Result<(), OutOfMemory> {
-    for object in objects {
-        let left = Left {
-            play,
-            object: *object,
-            value: value_in(values, *object),
-        };
+) -> Result<(), OutOfMemory>
+    requires { ends_play plan.now ending.now ≡ true }
+    ensures { OnOk result (GrewBy (IsLeftBy plan.now ending.now values.now) lefts.old.items lefts.new.items) }
+{
+    for object in plan.objects_of(ending.place) {
+        let left = left_by(ending, values, *object);
         add_left(lefts, left)?;
     }
     Ok(())
 }
 
 /// Whether an entry is the end of a play.
-fn ends_play(plan: &Plan, entry: &Entry) -> bool {
-    match entry.kind {
-        Kind::End => plan.parent(entry.place).is_none(),
-        _ => false,
+fn ends_play(plan: &Plan, entry: &Entry) -> bool
+    ensures { result ≡ ends_play plan.now entry.now }
+{
+    entry.kind == Kind::End && plan.parent(entry.place).is_none()
+}
+
+/// Takes note of the end of a play, with the values as they are then.
+fn note_end(
+    lefts: &mut Vec<Left>,
+    ways: &mut Vec<Way>,
+    plan: &Plan,
+    ending: &Entry,
+    values: &[i64],
+) -> Result<(), OutOfMemory>
+    requires { ends_play plan.now ending.now ≡ true }
+    ensures lefts { OnOk result (GrewBy (IsLeftBy plan.now ending.now values.now) lefts.old.items lefts.new.items) }
+    ensures ways { OnOk result (GrewBy (IsWayBy plan.now ending.now) ways.old.items ways.new.items) }
+{
+    let way = Way {
+        play: ending.place,
+        mark: ending.mark,
+        exception: ending.arg,
+    };
+    add_way(ways, way)?;
+    add_lefts(lefts, plan, ending, values)?;
+    Ok(())
+}
+
+/// Takes note of an entry: of the end of a play, with the values as they are then.
+#[tactic(auto, using(crate::proofs::Measured::grew_none))]
+fn note_entry(
+    lefts: &mut Vec<Left>,
+    ways: &mut Vec<Way>,
+    plan: &Plan,
+    entry: &Entry,
+    values: &[i64],
+) -> Result<(), OutOfMemory>
+    ensures lefts { OnOk result (GrewBy (IsLeftBy plan.now entry.now values.now) lefts.old.items lefts.new.items) }
+    ensures ways { OnOk result (GrewBy (IsWayBy plan.now entry.now) ways.old.items ways.new.items) }
+{
+    if !ends_play(plan, entry) {
+        return Ok(());
     }
+    note_end(lefts, ways, plan, entry, values)?;
+    Ok(())
+}
+
+/// Takes note of the ends of the plays of a journal.
+fn note_ends(
+    alloc: Global,
+    lefts: &mut Vec<Left>,
+    ways: &mut Vec<Way>,
+    plan: &Plan,
+    entries: &[Entry],
+) -> Result<(), OutOfMemory>
+    ensures lefts { OnOk result (GrewBy (IsLeftIn plan.now entries.now) lefts.old.items lefts.new.items) }
+    ensures ways { OnOk result (GrewBy (IsWayIn plan.now entries.now) ways.old.items ways.new.items) }
+{
+    let mut values = plan.initials(alloc)?;
+    for entry in entries {
+        note_entry(lefts, ways, plan, entry, &values)?;
+        note_put(&mut values, entry);
+    }
+    Ok(())
 }
 
 impl Measure {
-    /// Takes note of an entry: of the end of a play, with the values as they are then.
-    fn note_entry(
-        &mut self,
-        plan: &Plan,
-        entry: &Entry,
-        values: &[i64],
-    ) -> Result<(), OutOfMemory> {
-        if !ends_play(plan, entry) {
-            return Ok(());
-        }
-        let way = Way {
-            play: entry.place,
-            mark: entry.mark,
-            exception: entry.arg,
-        };
-        add_way(&mut self.ways, way)?;
-        add_lefts(
-            &mut self.lefts,
-            plan.objects_of(entry.place),
-            entry.place,
-            values,
-        )
-    }
-
-    /// Takes note of a journal without a fault.
-    pub fn note(
-        &mut self,
-        alloc: Global,
-        plan: &Plan,
-        journal: &Journal,
-    ) -> Result<(), OutOfMemory> {
-        let mut values = plan.initials(alloc)?;
-        for entry in journal.as_slice() {
-            note_put(&mut values, entry);
-            self.note_entry(plan, entry, &values)?;
-        }
+    /// Takes note of the entries of a journal without a fault. What is noted beside what was is of this journal.
+    pub fn note(&mut self, alloc: Global, plan: &Plan, entries: &[Entry]) -> Result<(), OutOfMemory>
+        ensures lefts { OnOk result (GrewBy (IsLeftIn plan.now entries.now) self.old.lefts self.new.lefts) }
+        ensures ways { OnOk result (GrewBy (IsWayIn plan.now entries.now) self.old.ways self.new.ways) }
+        ensures off { self.new.off ≡ self.old.off }
+        ensures counted { self.new.counted ≡ self.old.counted }
+    {
+        note_ends(alloc, &mut self.lefts, &mut self.ways, plan, entries)?;
         Ok(())
     }
 }

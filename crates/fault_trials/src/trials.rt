@@ -1,10 +1,11 @@
 //! Each put of the journals of a plan is refused in turn, and what comes of it is told.
 
-ghost use Rattle.std.specs.Prelude.{◌≡◌, ◌+◌, [], IfOk, OnOk, length};
+ghost use Rattle.std.specs.Prelude.{◌≡◌, ◌≤◌, ◌+◌, [], IfOk, OnOk, length};
 ghost use Rattle.std.specs.List.{All};
 ghost use Rattle.place_plan.specs.Plans.Places.{top_of};
-ghost use Rattle.place_plan.specs.RulesOfJournals.Journals.{IsLegal, IsComplete};
+ghost use Rattle.place_plan.specs.RulesOfJournals.Journals.{IsLegal, IsComplete, faults_in};
 ghost use Rattle.fault_trials.specs.Classes.{class_of};
+ghost use Rattle.fault_trials.specs.Measures.{IsMeasured};
 ghost use Rattle.fault_trials.specs.Puts.{IsPutAt};
 ghost use Rattle.fault_trials.specs.Tables.{Grown, Added, IsTried, AllTried, IsWhole, Tabled, TriesAt};
 
@@ -12,16 +13,18 @@ use crate::backs::Backs;
 use crate::effects::{Effect, Refused, effect_of};
 use crate::measure::Measure;
 use crate::modes::{Class, Example, Mode, Spot, Tried};
+use crate::once_plant::OncePlant;
 use crate::puts::{Put, put_at};
 use crate::try_error::TryError;
 use crate::twins::refuses;
-use caa_base::written::entry::{Exception, Kind, Object, OutOfMemory};
+use caa_base::outside::memory::SurePlant;
+use caa_base::written::entry::{Drill, Exception, Kind, Object, OutOfMemory};
 use caa_base::written::journal::Journal;
 use place_plan::plans::plan::Plan;
 use rehearsals::facts::tries_put;
 use rehearsals::numbered::{Played, play_numbered, usual_length};
 use rehearsals::paths::number_of;
-use rehearsals::refusing::{Refusals, Trouble};
+use rehearsals::refusing::{Refusals, RefusingPlant, Trouble};
 use std::alloc::Global;
 
 /// Entries that the journals of all tries may have together.
@@ -116,11 +119,6 @@ fn refusals_of(alloc: Global, tried: Tried) -> Result<Refusals, OutOfMemory> {
     Ok(Refusals { drills, trouble })
 }
 
-/// Whether a try refuses one put.
-fn is_one(tried: Tried) -> bool {
-    matches!(tried, Tried::One(_))
-}
-
 /// Adds an exception that was resolved, unless it is among these.
 fn add_began(resolved: &mut Vec<Began>, began: Began) -> Result<(), OutOfMemory> {
     if !resolved.iter().any(|other| *other == began) {
@@ -179,7 +177,7 @@ impl Counts {
     }
 }
 
-/// Plays the schedule of a number with these puts refused.
+/// Plays the schedule of a number with these puts refused, more than one.
 fn play(
     alloc: Global,
     plan: Plan,
@@ -191,10 +189,31 @@ fn play(
     ensures legal { IfOk result (λ played. IsLegal plan played.journal.entries) }
     ensures complete { IfOk result (λ played. IsComplete plan played.journal.entries) }
 {
-    let refusals = refusals_of(alloc, example.refused)?;
-    let played = play_numbered(alloc, plan, example.schedule, bench.length, refusals)?;
-    let is_single = is_one(example.refused);
-    counts.note(alloc, &played.plan, &played.journal, is_single)?;
+    let plant = RefusingPlant::new(alloc, refusals_of(alloc, example.refused)?);
+    let told = play_numbered(alloc, plan, example.schedule, bench.length, plant)?;
+    let (played, _) = told;
+    counts.note(alloc, &played.plan, &played.journal, false)?;
+    Ok(played)
+}
+
+/// Plays the schedule of a number with this put refused, and no other.
+fn play_once(
+    alloc: Global,
+    plan: Plan,
+    bench: &Bench,
+    number: u32,
+    drill: Drill,
+    counts: &mut Counts,
+) -> Result<Played, OutOfMemory>
+    ensures plan { IfOk result (λ played. played.plan ≡ plan) }
+    ensures legal { IfOk result (λ played. IsLegal plan played.journal.entries) }
+    ensures complete { IfOk result (λ played. IsComplete plan played.journal.entries) }
+    ensures few { IfOk result (λ played. faults_in played.journal.entries ≤ 1) }
+{
+    let plant = OncePlant::new(drill);
+    let told = play_numbered(alloc, plan, number, bench.length, plant)?;
+    let (played, _) = told;
+    counts.note(alloc, &played.plan, &played.journal, true)?;
     Ok(played)
 }
 
@@ -342,7 +361,14 @@ fn try_once(
     ensures tried { OnOk result (IsTried plan bench.now.measure findings.new.lines.items base.now.journal.entries put.now.index put.now.entry) }
 {
     let way = alone(put, base.number, Mode::Once, Tried::One(put.drill));
-    let played = play(alloc, plan, bench, way.example, &mut findings.counts)?;
+    let played = play_once(
+        alloc,
+        plan,
+        bench,
+        base.number,
+        put.drill,
+        &mut findings.counts,
+    )?;
     if !refuses(base.journal.as_slice(), played.journal.as_slice(), put) {
         return Err(TryError::WentAnotherWay);
     }
@@ -529,10 +555,14 @@ fn play_base(
     number: u32,
     fair_length: u32,
 ) -> Result<Bases, OutOfMemory>
-    requires { All (IsWhole known.plan) known.bases.items }
+    requires whole { All (IsWhole known.plan) known.bases.items }
+    requires measured { IsMeasured known.plan known.measure known.bases.items }
     ensures plan { IfOk result (λ after. after.plan ≡ known.plan) }
     ensures all { IfOk result (λ after. length after.bases.items ≡ length known.bases.items + 1) }
     ensures whole { IfOk result (λ after. All (IsWhole after.plan) after.bases.items) }
+    ensures measured { IfOk result (λ after. IsMeasured after.plan after.measure after.bases.items) }
+    ensures off { IfOk result (λ after. after.measure.off ≡ known.measure.off) }
+    ensures counted { IfOk result (λ after. after.measure.counted ≡ known.measure.counted) }
 {
     let Bases {
         plan,
@@ -540,8 +570,9 @@ fn play_base(
         mut measure,
         mut counts,
     } = known;
-    let played = play_numbered(alloc, plan, number, fair_length, Refusals::none(alloc))?;
-    measure.note(alloc, &played.plan, &played.journal)?;
+    let told = play_numbered(alloc, plan, number, fair_length, SurePlant::new())?;
+    let (played, _) = told;
+    measure.note(alloc, &played.plan, played.journal.as_slice())?;
     counts.note(alloc, &played.plan, &played.journal, true)?;
     let Played { plan, journal } = played;
     bases.push(Base { number, journal })?;
@@ -560,10 +591,15 @@ fn play_bases(
     schedules: u32,
     fair_length: u32,
 ) -> Result<Bases, OutOfMemory>
-    requires { known.bases.items ≡ [] }
+    requires none { known.bases.items ≡ [] }
+    requires lefts { known.measure.lefts ≡ [] }
+    requires ways { known.measure.ways ≡ [] }
     ensures plan { IfOk result (λ after. after.plan ≡ known.plan) }
     ensures all { IfOk result (λ after. length after.bases.items ≡ schedules) }
     ensures whole { IfOk result (λ after. All (IsWhole after.plan) after.bases.items) }
+    ensures measured { IfOk result (λ after. IsMeasured after.plan after.measure after.bases.items) }
+    ensures off { IfOk result (λ after. after.measure.off ≡ known.measure.off) }
+    ensures counted { IfOk result (λ after. after.measure.counted ≡ known.measure.counted) }
 {
     let mut known = known;
     for index in 0..schedules {
@@ -626,7 +662,7 @@ pub fn try_faults<P: Progress>(
     progress: &mut P,
 ) -> Result<(Plan, Trial), TryError>
     ensures plan { IfOk result (λ found. found.0 ≡ plan) }
-    ensures tabled { IfOk result (λ found. Tabled plan found.1.bench.measure found.1.findings.lines.items question.schedules) }
+    ensures tabled { IfOk result (λ found. Tabled plan question found.1.bench.measure found.1.findings.lines.items) }
 {
     let Question {
         schedules,
@@ -634,12 +670,13 @@ pub fn try_faults<P: Progress>(
         counted,
         has_pairs,
     } = question;
-    let found = usual_length(alloc, plan, Refusals::none(alloc))?;
+    let found = usual_length(alloc, plan, SurePlant::new())?;
     let (plan, length) = found;
+    let measure = Measure::new(alloc, off, counted);
     let known = Bases {
         plan,
         bases: Vec::new(alloc),
-        measure: Measure::new(alloc, off, counted),
+        measure,
         counts: Counts::new(alloc),
     };
     let played = play_bases(alloc, known, schedules, length)?;

@@ -15,10 +15,11 @@ try_tells (Some d) o = refl
 pub ruleset goes_on_telling = (put_tells, try_tells)
 
 -- a base by its parts
-pub base_same : (history history' : Option (List Asked)) (faults lays lays' : ℕ) (values values' drills drills' : Bool)
-    → history ≡ history' → lays ≡ lays' → values ≡ values' → drills ≡ drills'
+pub base_same : (history history' : Option (List Asked)) (labels labels' : List (List ℕ)) (faults lays lays' : ℕ)
+    (values values' drills drills' : Bool)
+    → history ≡ history' → labels ≡ labels' → lays ≡ lays' → values ≡ values' → drills ≡ drills'
     → ◌≡◌ {A = Base}
-    (record { history = history; faults = faults; lay_faults = lays; tells_values = values; tells_drills = drills })
-    (record { history = history'; faults = faults; lay_faults = lays'; tells_values = values'; tells_drills = drills' })
-base_same history history' faults lays lays' values values' drills drills' h l v d =
-    (λ i. record { history = h i; faults = faults; lay_faults = l i; tells_values = v i; tells_drills = d i })
+    (record { history = history; labels = labels; faults = faults; lay_faults = lays; tells_values = values; tells_drills = drills })
+    (record { history = history'; labels = labels'; faults = faults; lay_faults = lays'; tells_values = values'; tells_drills = drills' })
+base_same history history' labels labels' faults lays lays' values values' drills drills' h n l v d =
+    (λ i. record { history = h i; labels = n i; faults = faults; lay_faults = l i; tells_values = v i; tells_drills = d i })

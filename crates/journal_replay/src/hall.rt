@@ -129,6 +129,7 @@ fn lay_out<P: Plant>(alloc: Global, plan: &Plan, plant: &mut P) -> Result<(), Pl
     ensures tells_drilling { is_some (P.drilling plant.new) ≡ is_some (P.drilling plant.old) }
     ensures lay_faults { CountsFault (is_refused result) (P.lay_faults plant.old) (P.lay_faults plant.new) }
     ensures faults { P.faults plant.new ≡ P.faults plant.old }
+    ensures labels { P.labels plant.new ≡ P.labels plant.old }
 {
     let values = plan.initials(alloc)?;
     let drills = drills_of(alloc, plan)?;
@@ -166,6 +167,7 @@ fn answer_of<P: Plant>(plant: &mut P, well: Entry, fault: Entry) -> Entry
     ensures calls { P.calls plant.new ≡ P.calls plant.old + 1 }
     ensures room { P.room plant.new ≡ P.room plant.old }
     ensures objects { P.objects plant.new ≡ P.objects plant.old }
+    ensures labels { P.labels plant.new ≡ P.labels plant.old }
     ensures count { CountsFault (is_fault result) (P.faults plant.old) (P.faults plant.new) }
 {
     let answer = match well.kind {
@@ -200,6 +202,7 @@ impl<P: Plant, R: Records> Played<P, R> {
         ensures plan { IfOk result (λ hall. plan_in hall ≡ plan) }
         ensures journal { IfOk result (λ hall. journal_in hall ≡ []) }
         ensures history { IfOk result (λ hall. (base_in hall).history ≡ P.history plant) }
+        ensures labels { IfOk result (λ hall. (base_in hall).labels ≡ P.labels plant) }
         ensures base { IfOk result (λ hall. (base_in hall).faults ≡ P.faults plant) }
         ensures lay_base { IfOk result (λ hall. (base_in hall).lay_faults ≡ P.lay_faults plant) }
         ensures count { IfOk result (λ hall. P.faults (plant_in hall) ≡ P.faults plant) }
@@ -210,6 +213,7 @@ impl<P: Plant, R: Records> Played<P, R> {
         ensures cause { IfErr result (λ error. CountsFault (is_plant_fault error.cause) (P.lay_faults plant) (P.lay_faults error.plant)) }
         ensures asked { IfErr result (λ error. WasOnlyLaid plan (P.history plant) (P.history error.plant)) }
         ensures kept { IfErr result (λ error. P.faults error.plant ≡ P.faults plant) }
+        ensures kept_labels { IfErr result (λ error. P.labels error.plant ≡ P.labels plant) }
         ensures kept_state { IfErr result (λ error. is_some (P.state error.plant) ≡ is_some (P.state plant)) }
         ensures kept_drilling { IfErr result (λ error. is_some (P.drilling error.plant) ≡ is_some (P.drilling plant)) }
         ensures unasked { IfErr result (λ error. P.calls error.plant ≡ P.calls plant) }
@@ -257,6 +261,7 @@ impl<P: Plant, R: Records> Played<P, R> {
         ensures history { P.history result.1 ≡ history_after result.0 result.2.entries (base_in self).history }
         ensures state { IfSome (P.state result.1) (HasValues result.0 result.2.entries) }
         ensures drilling { IfSome (P.drilling result.1) (HasDrills result.0 result.2.entries) }
+        ensures labels { P.labels result.1 ≡ (base_in self).labels }
         ensures tells_state { is_some (P.state result.1) ≡ (base_in self).tells_values }
         ensures tells_drilling { is_some (P.drilling result.1) ≡ (base_in self).tells_drills }
     {

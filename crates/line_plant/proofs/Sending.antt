@@ -7,6 +7,7 @@ use Rattle.caa_base.proofs.KnownBytes.{append_known-append_known}
 use Rattle.caa_base.specs.Outside.Counts.{counted_up}
 use Rattle.caa_base.specs.Written.Names.{name_at}
 use Rattle.caa_base.specs.declared.written.entry.Drill.{Drill}
+use Rattle.caa_base.specs.declared.written.entry.Entry.{Entry}
 use Rattle.caa_base.specs.declared.outside.plant.Asked.{Asked}
 use Rattle.caa_base.specs.declared.outside.plant.Asked.TheVariants as asked
 use Rattle.caa_base.specs.declared.outside.plant.PlantError.{PlantError}
@@ -19,9 +20,9 @@ use Rattle.line_plant.specs.declared.told.Told.{Told}
 use Rattle.line_plant.specs.declared.wire.Wire.{Wire}
 use Rattle.line_plant.specs.Answers.{is_well}
 use Rattle.line_plant.specs.Devices.{LayCame}
-use Rattle.line_plant.specs.Lines.{lay_line, asking_line, put_word, restore_word, stop_line}
+use Rattle.line_plant.specs.Lines.{lay_line, asking_line, stop_line}
 use Rattle.line_plant.specs.Wires.{AskCame, WasAnswered, WroteLine, WroteLinePart, WasStopped, SentStop, SentNoStop}
-use Rattle.line_plant.specs.Sent.{was_done, NoneDone, AsksFor, IsNotLaid, AreLines, IsUnanswered, WasSent}
+use Rattle.line_plant.specs.Sent.{was_done, NoneDone, word_of, AsksFor, IsSilent, AreLines, IsUnanswered, IsUncut, WasSent}
 use Rattle.line_plant.specs.inner.Telling.{Keeps}
 
 -- one line more
@@ -47,9 +48,9 @@ line_behind names number (x ∷ more) after bytes a line (inl (first, behind, is
 line_behind names number (x ∷ more) after bytes a line (inr (is, are)) asks =
     inr (is, line_behind names number more after bytes a line are asks)
 
--- one laying out more that came to nothing, without a line
+-- one thing more, without a line
 pub unlaid_behind : (names : List (List ℕ)) (number : ℕ) (all : List Asked) (after : ℕ) (bytes : List ℕ) (a : Asked)
-    → AreLines names number all after bytes → IsNotLaid a → AreLines names number (all ++ a ∷ []) after bytes
+    → AreLines names number all after bytes → IsSilent a → AreLines names number (all ++ a ∷ []) after bytes
 unlaid_behind names number [] after bytes a are unlaid = inr (unlaid, are)
 unlaid_behind names number (x ∷ more) after bytes a (inl (first, behind, is, are, joined)) unlaid =
     inl (first, behind, is, unlaid_behind names (counted_up number) more after behind a are unlaid, joined)
@@ -66,6 +67,12 @@ pub still_last : (names : List (List ℕ)) (number : ℕ) (all : List Asked) (by
     → IsUnanswered names number all bytes → IsUnanswered names number (all ++ a ∷ []) bytes
 still_last names number [] bytes a is = inl is
 still_last names number (x ∷ more) bytes a is = is
+
+-- and it stays uncut
+pub still_uncut : (names : List (List ℕ)) (number : ℕ) (all : List Asked) (bytes : List ℕ) (a : Asked)
+    → IsUncut names number all bytes → IsUncut names number (all ++ a ∷ []) bytes
+still_uncut names number [] bytes a is = inl is
+still_uncut names number (x ∷ more) bytes a is = is
 
 -- the sink holds what it held, and more behind it
 pub more_held : {K : Type 0} (sinks : SinkGhosts K) (start : Option (List ℕ)) (bytes text : List ℕ) (before after : K)
@@ -111,9 +118,11 @@ keeps_whole sinks names told wire bytes are held = record {
     last = [];
     is_last = refl;
     is_front = (stop_line, refl);
+    behind = inl refl;
     joined = sym (append-nil (bytes ++ []) ∙ append-nil bytes);
   };
   held = held;
+  uncut = λ _. refl;
   unstopped = λ _ _. refl;
   whole = λ _. (refl, refl, refl);
 }
@@ -123,9 +132,10 @@ keeps_whole sinks names told wire bytes are held = record {
 -- what isn't answered breaks it
 pub keeps_broken : {S K : Type 0} (sinks : SinkGhosts K) (names : List (List ℕ)) (told : Told K) (a : Asked) (wire : Wire S K) (next : ℕ)
     (bytes last : List ℕ) → AreLines names 0 told.asked next bytes → was_done a ≡ false → IsUnanswered names next (a ∷ []) last
+    → (wire.is_cut ≡ false → IsUncut names next (a ∷ []) last)
     → sinks.held wire.commands ≡ append_known (sinks.held told.opened) (bytes ++ last) → wire.is_broken ≡ true
     → Keeps sinks names (record told { asked = told.asked ++ a ∷ [] }) wire
-keeps_broken sinks names told a wire next bytes last are undone is_last held broken = record {
+keeps_broken sinks names told a wire next bytes last are undone is_last uncut held broken = record {
   bytes = bytes ++ last;
   stop = [];
   sent = record {
@@ -139,9 +149,11 @@ keeps_broken sinks names told a wire next bytes last are undone is_last held bro
     last = last;
     is_last = is_last;
     is_front = (stop_line, refl);
+    behind = inl refl;
     joined = sym (append-nil (bytes ++ last));
   };
   held = held;
+  uncut = uncut;
   unstopped = λ _ _. refl;
   whole = λ unbroken. absurd (true≢false (sym broken ∙ unbroken));
 }
@@ -164,9 +176,14 @@ keeps_out sinks names told a wire k broken undone = let s = k.sent in record {
     last = s.last;
     is_last = still_last names s.next s.unanswered s.last a s.is_last;
     is_front = s.is_front;
+    behind = elim s.behind [
+      | inl none ↦ inl none
+      | inr whole ↦ inr (still_uncut names s.next s.unanswered s.last a whole)
+    ];
     joined = s.joined;
   };
   held = k.held;
+  uncut = λ whole. still_uncut names s.next s.unanswered s.last a (k.uncut whole);
   unstopped = k.unstopped;
   whole = λ unbroken. absurd (true≢false (sym broken ∙ unbroken));
 }
@@ -186,7 +203,7 @@ pub keeps_answered : {S K : Type 0} (sources : SourceGhosts S) (sinks : SinkGhos
     → Keeps sinks names (record told { asked = told.asked ++ a ∷ [] }) after
 keeps_answered sources sinks names told a before after text answer.Lost k asks undone w =
     keeps_broken sinks names told a after before.next k.bytes text (standing sinks names told before k w.able) undone
-    (inr (text, asks, ([], append-nil text)))
+    (inr (text, asks, ([], append-nil text))) (λ _. inr asks)
     (more_held sinks (sinks.held told.opened) k.bytes text before.commands after.commands k.held w.sent) w.broken
 keeps_answered sources sinks names told a before after text answer.Well k asks undone w =
     keeps_whole sinks names (record told { asked = told.asked ++ a ∷ [] }) after (k.bytes ++ text)
@@ -208,7 +225,7 @@ keeps_asked sources sinks names told a before after text came k asks undone (inl
     keeps_answered sources sinks names told a before after text came k asks undone w
 keeps_asked sources sinks names told a before after text answer.Lost k asks undone (inr (inl cut)) =
     keeps_broken sinks names told a after before.next k.bytes (take cut.part.count text) (standing sinks names told before k cut.able)
-    undone (inr (text, asks, take_front cut.part.count text))
+    undone (inr (text, asks, take_front cut.part.count text)) (λ whole. absurd (true≢false (sym cut.cut ∙ whole)))
     (more_held sinks (sinks.held told.opened) k.bytes (take cut.part.count text) before.commands after.commands k.held cut.part.front) cut.broken
 keeps_asked sources sinks names told a before after text answer.Lost k asks undone (inr (inr out)) =
     subst (Keeps sinks names (record told { asked = told.asked ++ a ∷ [] })) (sym out.kept)
@@ -216,9 +233,9 @@ keeps_asked sources sinks names told a before after text answer.Lost k asks undo
 keeps_asked sources sinks names told a before after text answer.Well k asks undone (inr none) = absurd none
 keeps_asked sources sinks names told a before after text answer.Failed k asks undone (inr none) = absurd none
 
--- the device was to be laid out, and wasn't asked
+-- something came of which nothing is sent
 pub keeps_unasked : {S K : Type 0} (sinks : SinkGhosts K) (names : List (List ℕ)) (told : Told K) (a : Asked) (wire : Wire S K)
-    → Keeps sinks names told wire → IsNotLaid a → was_done a ≡ false
+    → Keeps sinks names told wire → IsSilent a → was_done a ≡ false
     → Keeps sinks names (record told { asked = told.asked ++ a ∷ [] }) wire
 keeps_unasked sinks names told a wire k unlaid undone = by_wire wire.is_broken refl where
   by_wire : (broken : Bool) → wire.is_broken ≡ broken → Keeps sinks names (record told { asked = told.asked ++ a ∷ [] }) wire
@@ -227,10 +244,28 @@ keeps_unasked sinks names told a wire k unlaid undone = by_wire wire.is_broken r
       keeps_whole sinks names (record told { asked = told.asked ++ a ∷ [] }) wire k.bytes
       (unlaid_behind names 0 told.asked wire.next k.bytes a (standing sinks names told wire k is) unlaid) k.held
 
+-- no `stop` was sent yet
+abbrev pub unstopped : (names : List (List ℕ)) (all : List Asked) (bytes stop : List ℕ) → stop ≡ [] → WasSent names all stop bytes
+    → WasSent names all [] bytes
+unstopped names all bytes stop none s = record {
+  answered = s.answered;
+  unanswered = s.unanswered;
+  parts = s.parts;
+  none_done = s.none_done;
+  next = s.next;
+  lines = s.lines;
+  in_lines = s.in_lines;
+  last = s.last;
+  is_last = s.is_last;
+  is_front = (stop_line, refl);
+  behind = inl refl;
+  joined = s.joined ∙ ap (λ t. s.lines ++ s.last ++ t) none;
+}
+
 -- `stop`, or a front of it, is sent behind all else
-pub stop_behind : (names : List (List ℕ)) (all : List Asked) (bytes stop : List ℕ) → WasSent names all [] bytes → IsPrefix stop stop_line
-    → WasSent names all stop (bytes ++ stop)
-stop_behind names all bytes stop s front = record {
+abbrev pub stop_behind : (names : List (List ℕ)) (all : List Asked) (bytes stop : List ℕ) (s : WasSent names all [] bytes)
+    → IsUncut names s.next s.unanswered s.last → IsPrefix stop stop_line → WasSent names all stop (bytes ++ stop)
+stop_behind names all bytes stop s uncut front = record {
   answered = s.answered;
   unanswered = s.unanswered;
   parts = s.parts;
@@ -241,18 +276,21 @@ stop_behind names all bytes stop s front = record {
   last = s.last;
   is_last = s.is_last;
   is_front = front;
+  behind = inr uncut;
   joined = ap (λ t. t ++ stop) (s.joined ∙ append-nil (s.lines ++ s.last));
 }
 
 -- a device that is given up
 pub keeps_spent : {S K : Type 0} (sinks : SinkGhosts K) (names : List (List ℕ)) (told : Told K) (wire : Wire S K) (stop bytes : List ℕ)
-    → WasSent names told.asked stop bytes → sinks.held wire.commands ≡ append_known (sinks.held told.opened) bytes
+    (sent : WasSent names told.asked stop bytes) → (wire.is_cut ≡ false → IsUncut names sent.next sent.unanswered sent.last)
+    → sinks.held wire.commands ≡ append_known (sinks.held told.opened) bytes
     → (wire.is_cut ≡ true) ⊎ (wire.was_stopped ≡ true) → wire.is_broken ≡ true → Keeps sinks names told wire
-keeps_spent sinks names told wire stop bytes sent held spent broken = record {
+keeps_spent sinks names told wire stop bytes sent uncut held spent broken = record {
   bytes = bytes;
   stop = stop;
   sent = sent;
   held = held;
+  uncut = uncut;
   unstopped = λ uncut unstopped. by_case uncut unstopped spent;
   whole = λ unbroken. absurd (true≢false (sym broken ∙ unbroken));
 } where
@@ -264,13 +302,13 @@ keeps_spent sinks names told wire stop bytes sent held spent broken = record {
 pub keeps_stopped : {S K : Type 0} (sinks : SinkGhosts K) (names : List (List ℕ)) (told : Told K) (before after : Wire S K)
     → Keeps sinks names told before → WasStopped sinks before after → Keeps sinks names told after
 keeps_stopped sinks names told before after k w = by_case w.came where
-  unstopped : SentStop sinks before after → WasSent names told.asked [] k.bytes
-  unstopped sent = subst (λ stop. WasSent names told.asked stop k.bytes) (k.unstopped sent.uncut sent.first) k.sent
-
   behind : (stop : List ℕ) → SentStop sinks before after → IsPrefix stop stop_line
       → sinks.held after.commands ≡ append_known (sinks.held before.commands) stop → Keeps sinks names told after
   behind stop sent front written =
-      keeps_spent sinks names told after stop (k.bytes ++ stop) (stop_behind names told.asked k.bytes stop (unstopped sent) front)
+      keeps_spent sinks names told after stop (k.bytes ++ stop)
+      (stop_behind names told.asked k.bytes stop
+      (unstopped names told.asked k.bytes k.stop (k.unstopped sent.uncut sent.first) k.sent) (k.uncut sent.uncut) front)
+      (λ _. k.uncut sent.uncut)
       (more_held sinks (sinks.held told.opened) k.bytes stop before.commands after.commands k.held written) w.spent w.broken
 
   by_case : SentStop sinks before after ⊎ SentNoStop before after → Keeps sinks names told after
@@ -282,7 +320,8 @@ keeps_stopped sinks names told before after k w = by_case w.came where
     by_write sent (inr cut) =
         behind (take cut.part.count stop_line) sent (take_front cut.part.count stop_line) cut.part.front
   by_case (inr none) =
-      keeps_spent sinks names told after k.stop k.bytes k.sent (ap sinks.held none.kept ∙ k.held) w.spent w.broken
+      keeps_spent sinks names told after k.stop k.bytes k.sent (λ whole. k.uncut (sym w.cut ∙ whole))
+      (ap sinks.held none.kept ∙ k.held) w.spent w.broken
 
 -- ---- what a method comes to
 
@@ -307,6 +346,7 @@ keeps_heard sinks names told before after k same = subst (Keeps sinks names told
   stop = k.stop;
   sent = k.sent;
   held = k.held;
+  uncut = k.uncut;
   unstopped = k.unstopped;
   whole = k.whole;
 })
@@ -323,30 +363,29 @@ keeps_told sinks names told after all wire k asked opened =
           (subst (λ o. record told { asked = after.asked; opened = o } ≡ after) opened refl)
 
 -- what is done is answered well
-undone_put : (came : Answer) (object : ℕ) (value : ℤ) → UndoneIfLost came (asked.Put object value (is_well came))
-undone_put answer.Well object value = tt
-undone_put answer.Failed object value = tt
-undone_put answer.Lost object value = refl
-
--- a line of a put or of a restore
-line_of_put : (names : List (List ℕ)) (number : ℕ) (word : List ℕ) (object : ℕ) (value : ℤ) (done : Bool)
-    → (word ≡ put_word) ⊎ (word ≡ restore_word)
-    → AsksFor names number (asked.Put object value done) (asking_line word number (name_at names object) value)
-line_of_put names number word object value done (inl is) = inl (ap (λ w. asking_line w number (name_at names object) value) is)
-line_of_put names number word object value done (inr is) = inr (ap (λ w. asking_line w number (name_at names object) value) is)
+undone_put : (came : Answer) (object : ℕ) (value : ℤ) (back : Bool) → UndoneIfLost came (asked.Put object value back (is_well came))
+undone_put answer.Well object value back = tt
+undone_put answer.Failed object value back = tt
+undone_put answer.Lost object value back = refl
 
 -- a put was asked for, and told
 pub keeps_put : {S K : Type 0} (sources : SourceGhosts S) (sinks : SinkGhosts K) (names : List (List ℕ)) (told after_told : Told K)
-    (before after : Wire S K) (word : List ℕ) (object : ℕ) (value : ℤ) (came : Answer) → Keeps sinks names told before
-    → (word ≡ put_word) ⊎ (word ≡ restore_word)
-    → AskCame sources sinks before after (asking_line word before.next (name_at names object) value) came
-    → after_told.asked ≡ told.asked ++ asked.Put object value (is_well came) ∷ [] → after_told.opened ≡ told.opened
+    (before after : Wire S K) (object : ℕ) (value : ℤ) (back : Bool) (came : Answer) → Keeps sinks names told before
+    → AskCame sources sinks before after (asking_line (word_of back) before.next (name_at names object) value) came
+    → after_told.asked ≡ told.asked ++ asked.Put object value back (is_well came) ∷ [] → after_told.opened ≡ told.opened
     → Keeps sinks names after_told after
-keeps_put sources sinks names told after_told before after word object value came k is_word asks all opened =
-    keeps_told sinks names told after_told (told.asked ++ asked.Put object value (is_well came) ∷ []) after
-    (keeps_asked sources sinks names told (asked.Put object value (is_well came)) before after
-    (asking_line word before.next (name_at names object) value) came k
-    (line_of_put names before.next word object value (is_well came) is_word) (undone_put came object value) asks) all opened
+keeps_put sources sinks names told after_told before after object value back came k asks all opened =
+    keeps_told sinks names told after_told (told.asked ++ asked.Put object value back (is_well came) ∷ []) after
+    (keeps_asked sources sinks names told (asked.Put object value back (is_well came)) before after
+    (asking_line (word_of back) before.next (name_at names object) value) came k refl (undone_put came object value back) asks) all opened
+
+-- an entry was told
+pub keeps_entered : {S K : Type 0} (sinks : SinkGhosts K) (names : List (List ℕ)) (told after_told : Told K) (wire : Wire S K) (e : Entry)
+    → Keeps sinks names told wire → after_told.asked ≡ told.asked ++ asked.Entered e ∷ [] → after_told.opened ≡ told.opened
+    → Keeps sinks names after_told wire
+keeps_entered sinks names told after_told wire e k all opened =
+    keeps_told sinks names told after_told (told.asked ++ asked.Entered e ∷ []) wire
+    (keeps_unasked sinks names told (asked.Entered e) wire k tt refl) all opened
 
 -- a laying out was asked for
 keeps_lay : {S K : Type 0} (sources : SourceGhosts S) (sinks : SinkGhosts K) (names : List (List ℕ)) (told : Told K)

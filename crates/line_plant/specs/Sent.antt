@@ -1,5 +1,5 @@
--- What a device was sent, by all that it was ever asked for.
-use Rattle.std.specs.Prelude.{◌≡◌, ◌⊎◌, ℕ, Bool, false, List, [], ◌∷◌, ◌++◌}
+-- What a device was sent, by all that ever came to it.
+use Rattle.std.specs.Prelude.{◌≡◌, ◌⊎◌, if◌then◌else◌, ℕ, Bool, false, List, [], ◌∷◌, ◌++◌}
 use mathlib.Core.List.{IsPrefix}
 use Rattle.caa_base.specs.Outside.Counts.{counted_up}
 use Rattle.caa_base.specs.Written.Names.{name_at}
@@ -7,26 +7,33 @@ use Rattle.caa_base.specs.declared.outside.plant.Asked.{Asked}
 use Rattle.caa_base.specs.declared.outside.plant.Asked.TheVariants as asked
 use Rattle.line_plant.specs.Lines.{lay_line, asking_line, put_word, restore_word, stop_line}
 
--- it was done
+-- it was asked for, and done
 abbrev pub was_done : Asked → Bool
 was_done (asked.Laid values drills puts done) = done
-was_done (asked.Put object value done) = done
+was_done (asked.Put object value back done) = done
+was_done (asked.Entered e) = false
 
 -- none of these was done
 abbrev pub NoneDone : List Asked → Type 0
 NoneDone [] = Unit {0}
 NoneDone (a ∷ more) = (was_done a ≡ false) × NoneDone more
 
--- the line of this number that asks for it: for a put the line of a put, or that of a restore
+-- the word that asks for a put: for a step, or for an undo that brings an object back
+abbrev pub word_of : Bool → List ℕ
+word_of back = if back then restore_word else put_word
+
+-- the line of this number that asks for it
 abbrev pub AsksFor : List (List ℕ) → ℕ → Asked → List ℕ → Type 0
 AsksFor names number (asked.Laid values drills puts done) line = line ≡ lay_line number names values
-AsksFor names number (asked.Put object value done) line =
-    (line ≡ asking_line put_word number (name_at names object) value) ⊎ (line ≡ asking_line restore_word number (name_at names object) value)
+AsksFor names number (asked.Put object value back done) line = line ≡ asking_line (word_of back) number (name_at names object) value
+AsksFor names number (asked.Entered e) line = ⊥
 
--- a laying out that came to nothing: where there are other objects, or no memory is found for the line, none is sent
-abbrev pub IsNotLaid : Asked → Type 0
-IsNotLaid (asked.Laid values drills puts done) = done ≡ false
-IsNotLaid (asked.Put object value done) = ⊥
+-- no line is sent of it: of an entry that the device is told of; and of a laying out that came to nothing, since there are other
+-- objects, or no memory was found for the line
+abbrev pub IsSilent : Asked → Type 0
+IsSilent (asked.Laid values drills puts done) = done ≡ false
+IsSilent (asked.Put object value back done) = ⊥
+IsSilent (asked.Entered e) = Unit {0}
 
 -- these bytes are the lines of all this, one behind the other, with the numbers from `number` on, and `after` is the next one
 abbrev pub AreLines : List (List ℕ) → ℕ → List Asked → ℕ → List ℕ → Type 0
@@ -34,16 +41,21 @@ AreLines names number [] after bytes = (after ≡ number) × (bytes ≡ [])
 AreLines names number (a ∷ more) after bytes =
     ((line : List ℕ) × (behind : List ℕ) × AsksFor names number a line × AreLines names (counted_up number) more after behind
     × (bytes ≡ line ++ behind))
-    ⊎ (IsNotLaid a × AreLines names number more after bytes)
+    ⊎ (IsSilent a × AreLines names number more after bytes)
 
 -- of what got no answer these bytes were sent: nothing, or a front of the line of the first, which may be all of it
 abbrev pub IsUnanswered : List (List ℕ) → ℕ → List Asked → List ℕ → Type 0
 IsUnanswered names number [] bytes = bytes ≡ []
 IsUnanswered names number (a ∷ more) bytes = (bytes ≡ []) ⊎ ((line : List ℕ) × AsksFor names number a line × IsPrefix bytes line)
 
+-- the same, and no line was cut off: nothing, or the whole line of the first
+abbrev pub IsUncut : List (List ℕ) → ℕ → List Asked → List ℕ → Type 0
+IsUncut names number [] bytes = bytes ≡ []
+IsUncut names number (a ∷ more) bytes = (bytes ≡ []) ⊎ AsksFor names number a bytes
+
 -- a device was sent these bytes by what it was asked for: a line for each thing, in order, as long as it answered; from the first on
--- that it didn't answer nothing was done, and nothing was sent but at most a front of the line of that one, and behind it these bytes
--- of `stop`
+-- that it didn't answer nothing was done, and nothing was sent but at most a front of the line of that one. Last of all, and only
+-- behind whole lines, come these bytes of `stop`
 pub record WasSent (names : List (List ℕ)) (all : List Asked) (stop bytes : List ℕ) : Type 0 where
   pub answered : List Asked
   pub unanswered : List Asked
@@ -55,4 +67,5 @@ pub record WasSent (names : List (List ℕ)) (all : List Asked) (stop bytes : Li
   pub last : List ℕ
   pub is_last : IsUnanswered names next unanswered last
   pub is_front : IsPrefix stop stop_line
+  pub behind : (stop ≡ []) ⊎ IsUncut names next unanswered last
   pub joined : bytes ≡ lines ++ last ++ stop

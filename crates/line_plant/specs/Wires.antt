@@ -83,4 +83,5 @@ pub record WasStopped {S K : Type 0} (sinks : SinkGhosts K) (before after : Wire
   pub unheard : after.answers ≡ before.answers
   pub numbered : after.next ≡ before.next
   pub broken : after.is_broken ≡ true
+  pub cut : after.is_cut ≡ before.is_cut
   pub spent : (after.is_cut ≡ true) ⊎ (after.was_stopped ≡ true)

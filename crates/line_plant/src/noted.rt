@@ -5,7 +5,7 @@ use crate::plant::LinePlant;
 use caa_base::outside::plant::{Plant, PlantError};
 use caa_base::outside::sink::Sink;
 use caa_base::outside::source::Source;
-use caa_base::written::entry::{Drill, Failed, Object};
+use caa_base::written::entry::{Drill, Entry, Failed, Object};
 use std::alloc::Global;
 use std::io::Write;
 use std::sync::atomic::{AtomicBool, Ordering};
@@ -161,6 +161,8 @@ impl<S: Source, K: Sink, W: Write> Plant for Noted<'_, S, K, W> {
 
     ghost objects = { λ p. p.plant.objects };
 
+    ghost labels = { λ p. p.plant.names };
+
     fn lay(
         &mut self,
         alloc: Global,
@@ -194,6 +196,10 @@ impl<S: Source, K: Sink, W: Write> Plant for Noted<'_, S, K, W> {
             self.note(b"restore", number, object, value);
         }
         result
+    }
+
+    fn entered(&mut self, entry: &Entry) {
+        self.plant.entered(entry);
     }
 
     fn lay_faults(&self) -> u64 {

@@ -6,12 +6,13 @@
 //! The numbers are the wire's own, and are never set back, also where the device is laid out again: a late answer to the first laying
 //! out isn't taken for that to the second.
 
-ghost use Rattle.std.specs.Prelude.{◌≡◌, ◌⊎◌, ◌<◌, ◌≤◌, ◌+◌, [], ◌∷◌, ◌++◌, length, None, Some, false, is_ok, if◌then◌else◌, IfOk, OnOk, OnErr, vec_capacity};
+ghost use Rattle.std.specs.Prelude.{◌≡◌, ◌⊎◌, ◌<◌, ◌≤◌, ◌+◌, [], ◌∷◌, ◌++◌, length, None, Some, false, true, is_ok, if◌then◌else◌, IfOk, OnOk, OnErr, vec_capacity};
 ghost use Rattle.caa_base.specs.declared.outside.plant.Asked.TheVariants as asked;
 ghost use Rattle.caa_base.specs.Outside.Counts.{counted_up, faults_after};
 ghost use Rattle.caa_base.specs.Outside.PlantState.{is_refused};
 ghost use Rattle.caa_base.specs.Written.Names.{name_at};
 ghost use Rattle.line_plant.specs.Lines.{asking_line, object_names, put_word, restore_word};
+ghost use Rattle.line_plant.specs.Sent.{word_of};
 ghost use Rattle.line_plant.specs.Answers.{is_well};
 ghost use Rattle.line_plant.specs.Wires.{AskCame, WasStopped};
 ghost use Rattle.line_plant.specs.Devices.{LayCame, PutCame, SinkGot};
@@ -27,7 +28,7 @@ use caa_base::outside::count::counted_up;
 use caa_base::outside::plant::{Plant, PlantError};
 use caa_base::outside::sink::Sink;
 use caa_base::outside::source::Source;
-use caa_base::written::entry::{Drill, Failed, Object, OutOfMemory};
+use caa_base::written::entry::{Drill, Entry, Failed, Object, OutOfMemory};
 use caa_base::written::name::{Name, name_at};
 use place_plan::plans::plan::Plan;
 use std::alloc::Global;
@@ -76,6 +77,14 @@ impl<S, K: Sink> Model for LinePlant<S, K> {
     } };
 
     ghost invariant = { λ p. HasRoom p.objects p.names.items (vec_capacity p.line) × ∥ Keeps ⟦<K as Sink>⟧ p.names.items p.told p.wire ∥₁ };
+}
+
+/// The word that asks for a put, by a step or `back` by an undo.
+fn word_of(back: bool) -> &'static [u8]
+    ensures word { result.now ≡ word_of back }
+    ensures short { length result.now ≤ 7 }
+{
+    if back { b"restore" } else { b"put" }
 }
 
 /// Asks a device by a wire to be laid out, and gives the line back: its memory holds the line of any put.
@@ -224,29 +233,30 @@ impl<S: Source, K: Sink> LinePlant<S, K> {
         self.wire.stop();
     }
 
-    /// What was sent, and what the device was asked for: the lines of all that, in their order, with the names of its objects.
+    /// What was sent, and what the device was asked for: the lines of all that, in their order, with the names of its objects, and last
+    /// `stop`, if it was given up.
     pub fn sent(&self)
         ensures { ∥ SinkGot ⟦<K as Sink>⟧ self.now ∥₁ }
     {
         let _ = &self.told;
     }
 
-    /// Asks for a put or a restore by its word, and tells that it was asked for.
-    fn ask_for(&mut self, word: &[u8], object: Object, value: i64) -> Answer
-        requires word { (word.now ≡ put_word) ⊎ (word.now ≡ restore_word) }
+    /// Asks for a put, by a step or `back` by an undo, and tells that it was asked for.
+    fn ask_for(&mut self, object: Object, value: i64, back: bool) -> Answer
         requires laid { object < self.old.objects }
         ensures came { AskCame ⟦<S as Source>⟧ ⟦<K as Sink>⟧ self.old.wire self.new.wire
-            (asking_line word.now self.old.wire.next (name_at self.old.names object) value) result }
+            (asking_line (word_of back) self.old.wire.next (name_at self.old.names object) value) result }
         ensures others { self.new ≡ record self.old {
           wire = self.new.wire;
-          asked = self.old.asked ++ asked.Put object value (is_well result) ∷ [];
+          asked = self.old.asked ++ asked.Put object value back (is_well result) ∷ [];
         } }
     {
         let name = name_at(self.names.as_slice(), object);
-        let answer = ask_put(&mut self.wire, &mut self.line, word, name, value);
+        let answer = ask_put(&mut self.wire, &mut self.line, word_of(back), name, value);
         self.told = self.told.then(&Note::Put {
             object,
             value,
+            back,
             done: answer.is_well(),
         });
         answer
@@ -277,13 +287,12 @@ impl<S: Source, K: Sink> LinePlant<S, K> {
         laid
     }
 
-    /// Asks for a put or a restore by its word.
-    fn ask_by(&mut self, word: &[u8], object: Object, value: i64) -> Result<(), Failed>
-        requires word { (word.now ≡ put_word) ⊎ (word.now ≡ restore_word) }
+    /// Asks for a put, by a step or `back` by an undo.
+    fn ask_by(&mut self, object: Object, value: i64, back: bool) -> Result<(), Failed>
         requires room { self.old.calls < self.old.room }
         requires laid { object < self.old.objects }
-        ensures came { PutCame ⟦<S as Source>⟧ ⟦<K as Sink>⟧ word.now self.old self.new object value result }
-        ensures asked { self.new.asked ≡ self.old.asked ++ asked.Put object value (is_ok result) ∷ [] }
+        ensures came { PutCame ⟦<S as Source>⟧ ⟦<K as Sink>⟧ (word_of back) self.old self.new object value result }
+        ensures asked { self.new.asked ≡ self.old.asked ++ asked.Put object value back (is_ok result) ∷ [] }
         ensures start { self.new.start ≡ self.old.start }
         ensures names { self.new.names ≡ self.old.names }
         ensures calls { self.new.calls ≡ self.old.calls + 1 }
@@ -293,7 +302,7 @@ impl<S: Source, K: Sink> LinePlant<S, K> {
         ensures lay_faults { self.new.lay_faults ≡ self.old.lay_faults }
     {
         self.calls += 1;
-        match self.ask_for(word, object, value) {
+        match self.ask_for(object, value, back) {
             Answer::Well => Ok(()),
             Answer::Failed | Answer::Lost => {
                 self.faults = counted_up(self.faults);
@@ -317,6 +326,8 @@ impl<S: Source, K: Sink> Plant for LinePlant<S, K> {
     ghost room = { λ p. p.room };
 
     ghost objects = { λ p. p.objects };
+
+    ghost labels = { λ p. p.names };
 
     fn lay(
         &mut self,
@@ -358,7 +369,7 @@ impl<S: Source, K: Sink> Plant for LinePlant<S, K> {
         requires room { self.old.calls < self.old.room }
         requires laid { object < self.old.objects }
         ensures came { PutCame ⟦<S as Source>⟧ ⟦<K as Sink>⟧ put_word self.old self.new object value result }
-        ensures asked { self.new.asked ≡ self.old.asked ++ asked.Put object value (is_ok result) ∷ [] }
+        ensures asked { self.new.asked ≡ self.old.asked ++ asked.Put object value false (is_ok result) ∷ [] }
         ensures start { self.new.start ≡ self.old.start }
         ensures names { self.new.names ≡ self.old.names }
         ensures calls { self.new.calls ≡ self.old.calls + 1 }
@@ -367,14 +378,14 @@ impl<S: Source, K: Sink> Plant for LinePlant<S, K> {
         ensures faults { self.new.faults ≡ faults_after result self.old.faults }
         ensures lay_faults { self.new.lay_faults ≡ self.old.lay_faults }
     {
-        self.ask_by(b"put", object, value)
+        self.ask_by(object, value, false)
     }
 
     fn restore(&mut self, object: Object, value: i64) -> Result<(), Failed>
         requires room { self.old.calls < self.old.room }
         requires laid { object < self.old.objects }
         ensures came { PutCame ⟦<S as Source>⟧ ⟦<K as Sink>⟧ restore_word self.old self.new object value result }
-        ensures asked { self.new.asked ≡ self.old.asked ++ asked.Put object value (is_ok result) ∷ [] }
+        ensures asked { self.new.asked ≡ self.old.asked ++ asked.Put object value true (is_ok result) ∷ [] }
         ensures start { self.new.start ≡ self.old.start }
         ensures names { self.new.names ≡ self.old.names }
         ensures calls { self.new.calls ≡ self.old.calls + 1 }
@@ -383,7 +394,13 @@ impl<S: Source, K: Sink> Plant for LinePlant<S, K> {
         ensures faults { self.new.faults ≡ faults_after result self.old.faults }
         ensures lay_faults { self.new.lay_faults ≡ self.old.lay_faults }
     {
-        self.ask_by(b"restore", object, value)
+        self.ask_by(object, value, true)
+    }
+
+    fn entered(&mut self, entry: &Entry)
+        ensures { self.new ≡ record self.old { asked = self.old.asked ++ asked.Entered entry.now ∷ [] } }
+    {
+        self.told = self.told.then(&Note::Entered { entry });
     }
 
     fn lay_faults(&self) -> u64 {

@@ -4,10 +4,10 @@ ghost use Rattle.std.specs.Prelude.{◌≡◌, List, [], ◌∷◌, ◌++◌};
 ghost use Rattle.std.specs.Borrow.{ftrue};
 ghost use Rattle.caa_base.specs.declared.outside.plant.Asked.{Asked as WasAsked};
 
-use caa_base::written::entry::{Drill, Object};
+use caa_base::written::entry::{Drill, Entry, Object};
 use std::marker::{Model, PhantomData};
 
-/// One thing that a device was asked for, and whether it did it.
+/// One thing that came to a device: what it was asked for, and whether it did it; or an entry that it was told of.
 #[derive(Clone, Copy, Drop)]
 pub(crate) enum Note<'a> {
     /// To be laid out with these values and drills, and with room for so many puts.
@@ -21,11 +21,16 @@ pub(crate) enum Note<'a> {
     Put {
         object: Object,
         value: i64,
+        back: bool,
         done: bool,
+    },
+    /// This entry stands in the journal.
+    Entered {
+        entry: &'a Entry,
     },
 }
 
-/// All that a device was asked for since it was made, and the sink as it was then.
+/// All that came to a device since it was made, and the sink as it was then.
 #[derive(Drop)]
 pub(crate) struct Told<K> {
     of: PhantomData<K>,
@@ -44,14 +49,14 @@ unsafe impl<K: Send> Send for Told<K> {}
 impl<K> Told<K> {
     ghost use Rattle.line_plant.specs.Asking.{asked_by};
 
-    /// Nothing was asked yet of a device that is spoken to by this sink.
+    /// Nothing came yet to a device that is spoken to by this sink.
     pub(crate) fn over(sink: &K) -> Told<K>
         ensures { (result.asked ≡ []) × (result.opened ≡ sink.now) }
     {
         Told { of: PhantomData }
     }
 
-    /// One thing more was asked.
+    /// One thing more came.
     pub(crate) fn then(&self, note: &Note<'_>) -> Told<K>
         ensures { (result.asked ≡ self.now.asked ++ asked_by note.now ∷ []) × (result.opened ≡ self.now.opened) }
     {

@@ -1,1 +1,2 @@
 pub mod RuledOut
+pub mod Untried

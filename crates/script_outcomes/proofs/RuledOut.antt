@@ -10,7 +10,7 @@ use Rattle.script_outcomes.specs.Nevers.{can_come, TellsNever}
 use Rattle.script_outcomes.specs.inner.RuledOut.{RulesOutOnly}
 
 -- what holds of each place of a list, and past its end, still holds with one more that it holds of
-each_more : {A B : Type 0} (f : B → A) (Q : ℕ → A → Type 0) (d : A) → ((n : ℕ) → Q n d) → (xs : List B) (x : B)
+pub each_more : {A B : Type 0} (f : B → A) (Q : ℕ → A → Type 0) (d : A) → ((n : ℕ) → Q n d) → (xs : List B) (x : B)
     → ((n : ℕ) → Q n (slice_index_or (map f xs) n d)) → Q (length xs) (f x)
     → (n : ℕ) → Q n (slice_index_or (map f (xs ++ x ∷ [])) n d)
 each_more f Q d past [] x each last zero = last

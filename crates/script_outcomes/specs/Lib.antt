@@ -1,3 +1,4 @@
 pub mod Endings
 pub mod Nevers
+pub mod Untried
 pub mod inner

@@ -6,4 +6,5 @@ pub mod outlooks;
 pub mod programs;
 pub mod sources;
 pub mod table;
+pub mod undone;
 pub mod ways;

@@ -1,14 +1,17 @@
 //! What the text of a script and its plan tell of each of its actions.
 
-ghost use Rattle.std.specs.Prelude.{◌≡◌, [], length, slice_index_or, IfOk};
+ghost use Rattle.std.specs.Prelude.{◌≡◌, [], true, length, slice_index_or, IsTrue, IfOk};
+ghost use Rattle.std.specs.List.{list_any};
 ghost use Rattle.caa_base.specs.Written.Lists.{member};
-ghost use Rattle.script_outcomes.specs.Endings.{can_be_undone, ends_undone};
+ghost use Rattle.script_outcomes.specs.Endings.{can_be_undone, ends_undone, is_undone};
 ghost use Rattle.script_outcomes.specs.Nevers.{TellsNever};
+ghost use Rattle.script_outcomes.specs.Untried.{TellsUntried};
 ghost use Rattle.script_outcomes.specs.inner.RuledOut.{RulesOutOnly};
 
 use crate::covering::Exceptions;
 use crate::programs::{Program, body_of, handler_of};
 use crate::sources::{Ground, Source, named_in, set_back_by, sources_of};
+use crate::undone::undone_by_plan;
 use crate::ways::{Way, add_way, way_of};
 use action_script::forms::form::Form;
 use action_script::forms::script::{Line, Script};
@@ -29,8 +32,6 @@ pub struct Row {
     pub can_come: bool,
     /// How a place ends in which it is resolved, where each handler goes through to its end.
     pub way: Way,
-    /// Whether a step of a handler can be refused, or can raise: then all is set back.
-    pub can_fail: bool,
 }
 
 /// What is told of an action. Exceptions and all else go by the numbers of their names.
@@ -172,7 +173,6 @@ impl<'a> Inside<'a> {
             lines: lines_in(alloc, &self.sources, exception)?,
             can_come,
             way: self.way_of(alloc, &programs, true)?,
-            can_fail: programs.iter().flatten().any(|program| program.can_fail()),
         })
     }
 
@@ -194,43 +194,67 @@ impl<'a> Inside<'a> {
         if bodies.iter().flatten().any(|body| body.raises()) {
             return Ok(());
         }
-        add_way(ways, self.way_of(alloc, &bodies, false)?)
+        add_kept(ways, self.way_of(alloc, &bodies, false)?)
     }
 
-    /// All ways in which a place can end, with these rows and these objects.
-    fn ways(&self, alloc: Global, rows: &[Row], set_back: &[u32]) -> Result<Vec<Way>, OutOfMemory> {
+    /// The ways in which a place can end that keeps what was put, with these rows.
+    fn kept_ways(&self, alloc: Global, rows: &[Row]) -> Result<Vec<Way>, OutOfMemory> {
         let mut ways = Vec::new(alloc);
         self.add_calm(alloc, &mut ways)?;
         for row in rows {
             if row.can_come {
-                add_way(&mut ways, row.way)?;
-            }
-            if row.can_come && row.can_fail {
-                add_way(&mut ways, Way::Undone)?;
+                add_kept(&mut ways, row.way)?;
             }
         }
-        if ways.as_slice().contains(&Way::Undone) && !set_back.is_empty() {
-            add_way(&mut ways, Way::Failed)?;
+        Ok(ways)
+    }
+
+    /// All ways in which a place can end, with these rows and these objects; whether it can end undone is known.
+    fn ways(
+        &self,
+        alloc: Global,
+        rows: &[Row],
+        set_back: &[u32],
+        undone: bool,
+    ) -> Result<Vec<Way>, OutOfMemory>
+        ensures { IfOk result (λ ways. IsTrue undone → IsTrue (list_any is_undone ways.items)) }
+    {
+        let mut ways = self.kept_ways(alloc, rows)?;
+        if undone {
+            ways.push(Way::Undone)?;
+        }
+        if undone && !set_back.is_empty() {
+            ways.push(Way::Failed)?;
         }
         Ok(ways)
     }
 }
 
-/// What is told of an action, in which these are never resolved; of those above it this is known.
+/// Adds a way to end that keeps what was put, unless it is there.
+fn add_kept(ways: &mut Vec<Way>, way: Way) -> Result<(), OutOfMemory> {
+    if way.is_undone() {
+        return Ok(());
+    }
+    add_way(ways, way)
+}
+
+/// What is told of an action, in which these are never resolved and which can end undone or can't; of those above it this is known.
 fn looked_at(
     alloc: Global,
     script: &Script,
     action: u32,
     nevers: &[Exception],
+    undone: bool,
     known: &[Outlook],
 ) -> Result<Outlook, OutOfMemory>
-    ensures { IfOk result (λ outlook. RulesOutOnly nevers.now outlook.rows.items) }
+    ensures only { IfOk result (λ outlook. RulesOutOnly nevers.now outlook.rows.items) }
+    ensures undone { IfOk result (λ outlook. IsTrue undone → IsTrue (ends_undone outlook)) }
 {
     let block = action_block(script.lines(), action);
     let inside = Inside::of(alloc, script, block, known)?;
     let rows = inside.rows(alloc, nevers)?;
     let set_back = set_back_by(alloc, script.lines(), block)?;
-    let ways = inside.ways(alloc, &rows, &set_back)?;
+    let ways = inside.ways(alloc, &rows, &set_back, undone)?;
     Ok(Outlook {
         action,
         set_back,
@@ -240,20 +264,34 @@ fn looked_at(
     })
 }
 
+/// Whether the action of this number can end undone, by a list; past its end nothing rules that out.
+fn is_undone_in(undone: &[bool], number: usize) -> bool
+    ensures { result ≡ slice_index_or undone.now number true }
+{
+    match undone.get(number) {
+        Some(can) => *can,
+        None => true,
+    }
+}
+
 /// What is told of the action behind those of which this is known.
 fn next_outlook(
     alloc: Global,
     script: &Script,
     action: u32,
     nevers: &Nevers,
+    undone: &[bool],
     known: &[Outlook],
 ) -> Result<Outlook, OutOfMemory>
-    ensures { IfOk result (λ outlook.
+    ensures only { IfOk result (λ outlook.
         RulesOutOnly (slice_index_or nevers.now (length known.now) []) outlook.rows.items) }
+    ensures undone { IfOk result (λ outlook.
+        IsTrue (slice_index_or undone.now (length known.now) true) → IsTrue (ends_undone outlook)) }
 {
+    let can = is_undone_in(undone, known.len());
     match u32::try_from(known.len()) {
-        Ok(number) => looked_at(alloc, script, action, nevers.of_action(number), known),
-        Err(_) => looked_at(alloc, script, action, &[], known),
+        Ok(number) => looked_at(alloc, script, action, nevers.of_action(number), can, known),
+        Err(_) => looked_at(alloc, script, action, &[], can, known),
     }
 }
 
@@ -268,16 +306,18 @@ fn actions_in(alloc: Global, lines: &[Line]) -> Result<Vec<u32>, OutOfMemory> {
     Ok(actions)
 }
 
-/// What the text of a script that isn't refused tells of each of its actions, in their order. What it tells to be never resolved comes
-/// from the plan of the script.
+/// What the text of a script that isn't refused tells of each of its actions, in their order. What it tells to be never resolved, and
+/// which actions can't end undone, comes from the plan of the script.
 pub fn outlooks(alloc: Global, script: &Script, plan: &Plan) -> Result<Vec<Outlook>, OutOfMemory>
-    ensures { IfOk result (λ outlooks. TellsNever plan.now outlooks.items) }
+    ensures never { IfOk result (λ outlooks. TellsNever plan.now outlooks.items) }
+    ensures untried { IfOk result (λ outlooks. TellsUntried plan.now outlooks.items) }
 {
     let nevers = never_resolved(alloc, plan)?;
+    let undone = undone_by_plan(alloc, plan)?;
     let actions = actions_in(alloc, script.lines())?;
     let mut known = Vec::new(alloc);
     for action in &actions {
-        let next = next_outlook(alloc, script, *action, &nevers, &known)?;
+        let next = next_outlook(alloc, script, *action, &nevers, &undone, &known)?;
         known.push(next)?;
     }
     Ok(known)

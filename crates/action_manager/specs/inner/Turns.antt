@@ -36,7 +36,7 @@ no_plan = record { participants = []; objects = []; graphs = []; actions = []; p
 
 -- a base of nothing
 abbrev pub no_base : Base
-no_base = record { history = None; faults = 0; lay_faults = 0; tells_values = false; tells_drills = false }
+no_base = record { history = None; labels = []; faults = 0; lay_faults = 0; tells_values = false; tells_drills = false }
 
 -- a list of publications that names nothing
 abbrev pub no_book : Book

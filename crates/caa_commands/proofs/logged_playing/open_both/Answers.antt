@@ -16,5 +16,5 @@ returns-in-Err-open-clause-refused g c =
       asked = only_laid c.args.plan _ _ _ _ _ left.history opened.plan opened.journal opened.history;
       unasked = inl (left.calls ∙ ap attempts_in opened.journal);
       unrefused = ap g.P.Plant.faults left.plant ∙ opened.count;
-      tells = record { values = left.tells_state ∙ opened.tells_state; drills = left.tells_drilling ∙ opened.tells_drilling };
+      tells = record { values = left.tells_state ∙ opened.tells_state; drills = left.tells_drilling ∙ opened.tells_drilling; labels = left.labels ∙ opened.labels };
     })

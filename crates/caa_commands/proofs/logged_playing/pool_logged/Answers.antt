@@ -56,6 +56,7 @@ returns-clause-comes g c =
       tells = record {
         values = parts.tells_state ∙ ap (λ (b : Base). b.tells_values) based ∙ opened.tells_state;
         drills = parts.tells_drilling ∙ ap (λ (b : Base). b.tells_drills) based ∙ opened.tells_drilling;
+        labels = parts.labels ∙ ap (λ (b : Base). b.labels) based ∙ opened.labels;
       };
     } in
     let seen = subst₂ (λ p s. EndsAs p journal s finding) same c.empty.ensures.seens told.ends in
@@ -100,6 +101,7 @@ returns-in-Err-pool-clause-comes g c =
       tells = record {
         values = left.tells_state ∙ ap (λ h. (base_in h).tells_values) same ∙ opened.tells_state;
         drills = left.tells_drilling ∙ ap (λ h. (base_in h).tells_drills) same ∙ opened.tells_drilling;
+        labels = left.labels ∙ ap (λ h. (base_in h).labels) same ∙ opened.labels;
       };
     }))
 

@@ -75,6 +75,7 @@ returns-clause-comes g c =
       tells = record {
         values = parts.tells_state ∙ ap (λ (b : Base). b.tells_values) based ∙ opened.tells_state;
         drills = parts.tells_drilling ∙ ap (λ (b : Base). b.tells_drills) based ∙ opened.tells_drilling;
+        labels = parts.labels ∙ ap (λ (b : Base). b.labels) based ∙ opened.labels;
       };
     } in
     let seens = c.in-Ok-run.finished.seens in
@@ -132,6 +133,7 @@ returns-in-Err-run-clause-comes g c =
       tells = record {
         values = left.tells_state ∙ ap (λ h. (base_in h).tells_values) same ∙ opened.tells_state;
         drills = left.tells_drilling ∙ ap (λ h. (base_in h).tells_drills) same ∙ opened.tells_drilling;
+        labels = left.labels ∙ ap (λ h. (base_in h).labels) same ∙ opened.labels;
       };
     }))
 

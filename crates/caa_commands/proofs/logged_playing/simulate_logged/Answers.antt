@@ -54,6 +54,7 @@ returns-clause-comes g c =
         tells = record {
           values = parts.tells_state ∙ ap (λ (b : Base). b.tells_values) based ∙ opened.tells_state;
           drills = parts.tells_drilling ∙ ap (λ (b : Base). b.tells_drills) based ∙ opened.tells_drilling;
+          labels = parts.labels ∙ ap (λ (b : Base). b.labels) based ∙ opened.labels;
         };
       };
       schedule =

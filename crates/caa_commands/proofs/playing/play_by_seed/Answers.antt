@@ -39,6 +39,7 @@ returns-clause-played g c =
         tells = record {
           values = parts.tells_state ∙ ap (λ (b : Base). b.tells_values) c.sim.ensures.base ∙ opened.tells_state;
           drills = parts.tells_drilling ∙ ap (λ (b : Base). b.tells_drills) c.sim.ensures.base ∙ opened.tells_drilling;
+          labels = parts.labels ∙ ap (λ (b : Base). b.labels) c.sim.ensures.base ∙ opened.labels;
         };
       };
       schedule = subst (λ old. GrewBy (turn_number c.args.seed) plan old journal) opened.journal grown;

@@ -42,6 +42,7 @@ returns g c =
       tells = record {
         values = parts.tells_state ∙ ap (λ (b : Base). b.tells_values) pooled.base ∙ opened.tells_state;
         drills = parts.tells_drilling ∙ ap (λ (b : Base). b.tells_drills) pooled.base ∙ opened.tells_drilling;
+        labels = parts.labels ∙ ap (λ (b : Base). b.labels) pooled.base ∙ opened.labels;
       };
     } in
     let seen = subst₂ (λ p s. EndsAs p journal s finding) same c.empty.ensures.seens told.ends in
@@ -70,6 +71,7 @@ returns-in-Err-pool g c =
       tells = record {
         values = left.tells_state ∙ ap (λ h. (base_in h).tells_values) same ∙ opened.tells_state;
         drills = left.tells_drilling ∙ ap (λ h. (base_in h).tells_drills) same ∙ opened.tells_drilling;
+        labels = left.labels ∙ ap (λ h. (base_in h).labels) same ∙ opened.labels;
       };
     }))
 

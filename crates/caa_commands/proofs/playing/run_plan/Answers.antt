@@ -65,6 +65,7 @@ returns-clause-comes g c =
       tells = record {
         values = parts.tells_state ∙ ap (λ (b : Base). b.tells_values) ran.base ∙ opened.tells_state;
         drills = parts.tells_drilling ∙ ap (λ (b : Base). b.tells_drills) ran.base ∙ opened.tells_drilling;
+        labels = parts.labels ∙ ap (λ (b : Base). b.labels) ran.base ∙ opened.labels;
       };
     } in
     let right = subst₂ (λ p j. IfSome seens (λ s. first_wrong p j s.seens ≡ None)) opened.plan (sym parts.journal) ran.right in
@@ -92,6 +93,7 @@ returns-in-Err-run-clause-comes g c =
       tells = record {
         values = left.tells_state ∙ ap (λ h. (base_in h).tells_values) same ∙ opened.tells_state;
         drills = left.tells_drilling ∙ ap (λ h. (base_in h).tells_drills) same ∙ opened.tells_drilling;
+        labels = left.labels ∙ ap (λ h. (base_in h).labels) same ∙ opened.labels;
       };
     }))
 

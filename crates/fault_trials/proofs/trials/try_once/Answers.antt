@@ -10,5 +10,5 @@ returns-clause-tried c =
     c.alone-way.result.spot c.alone-way.result.mode c.alone-way.result.told.place c.in_ok-played.ensures.plan
     c.in_ok-played.ensures.legal c.in_ok-played.ensures.complete
     (subst₂ (λ base tried. RefusedAt base tried c.args.put.now.index c.args.put.now.entry) c.as_slice.ensures c.as_slice-2.ensures
-    (c.if-not-refuses.ensures refl))
+    (c.if-not-refuses.ensures refl)) c.in_ok-played.ensures.few
     (c.alone-way.ensures.spot ∙ c.requires.spot) c.alone-way.ensures.mode c.alone-way.ensures.place c.in_ok-note.ensures

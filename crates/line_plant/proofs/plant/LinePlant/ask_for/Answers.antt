@@ -5,6 +5,7 @@ use Rattle.caa_base.specs.declared.outside.plant.Asked.TheVariants as asked
 use Rattle.line_plant.specs.Answers.{is_well}
 use Rattle.line_plant.specs.Lines.{asking_line}
 use Rattle.line_plant.specs.Wires.{AskCame}
+use Rattle.line_plant.specs.Sent.{word_of}
 use Rattle.line_plant.proofs.Sending.{keeps_put}
 use Rattle.line_plant.proofs.plant.LinePlant.ask_for.Goals as goal
 
@@ -15,11 +16,11 @@ invariant_of-self g c =
     let came = c.ask_put-answer.result in
     let number = device.wire.next in
     let asks : AskCame g.S.Source g.K.Sink device.wire after
-    (asking_line c.args.word.now number (name_at device.names.items c.args.object) c.args.value) came = search rules in
-    let all : c.then-self-inside.result.asked ≡ device.told.asked ++ asked.Put c.args.object c.args.value (is_well came) ∷ [] =
+    (asking_line (word_of c.args.back) number (name_at device.names.items c.args.object) c.args.value) came = search rules in
+    let all : c.then-self-inside.result.asked ≡ device.told.asked ++ asked.Put c.args.object c.args.value c.args.back (is_well came) ∷ [] =
     search rules in (
       (λ n low. let room = c.self.invariant.0 n low in omega arith),
       ∥∥₁_map c.self.invariant.1 (λ k.
-          keeps_put g.S.Source g.K.Sink device.names.items device.told c.then-self-inside.result device.wire after c.args.word.now
-          c.args.object c.args.value came k c.requires.word asks all c.then-self-inside.ensures.1),
+          keeps_put g.S.Source g.K.Sink device.names.items device.told c.then-self-inside.result device.wire after
+          c.args.object c.args.value c.args.back came k asks all c.then-self-inside.ensures.1),
     )
