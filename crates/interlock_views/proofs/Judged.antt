@@ -1,17 +1,38 @@
 -- Rules that are judged by a journal, one after another.
-use Rattle.std.proofs.Common.{◌≡◌, ℕ, suc, ◌+◌, List, [], ◌∷◌, ◌++◌, length, refl, sym, ap, subst, inl, inr, arith, length-append}
+use Rattle.std.proofs.Common.{◌≡◌, ◌↔◌, ℕ, suc, ◌+◌, Bool, true, false, List, [], ◌∷◌, ◌++◌, length, map, reverse, refl, sym, ap, ◌∙◌, subst, inl, inr, arith, append_assoc, length-append}
 use Rattle.std.specs.List.{All, Contains}
+use Rattle.std.proofs.lemmas.Bool.{false≢true}
+use Rattle.std.proofs.lemmas.List.{map-append}
 use Rattle.std.proofs.lemmas.List.Elements.{All-nil, All-push, All-contains_itself, All-weaker, All-same}
 use Rattle.caa_base.specs.declared.written.entry.Entry.{Entry}
 use Rattle.place_plan.specs.Plans.PlanValue.{Plan}
-use Rattle.interlock_views.specs.Broken.{IsFound}
+use Rattle.place_plan.specs.RulesOfJournals.Journals.{IsLegal, IsComplete}
+use Rattle.interlock_rules.specs.Interlocks.{Takes}
+use Rattle.interlock_views.specs.Broken.{IsBroken, IsFound}
 use Rattle.interlock_views.specs.Hunts.{IsKept}
 use Rattle.interlock_views.specs.inner.Judging.{IsJudgedSo, IsAdded, IsFoundThere, IsUnbrokenStill, AreJudgedSoFar}
 use Rattle.interlock_views.specs.declared.found.Found.{Found}
+use Rattle.interlock_views.specs.declared.found.JudgedRule.{JudgedRule}
 use Rattle.interlock_views.specs.declared.hunting.Judged.{Judged}
 use Rattle.interlock_views.specs.declared.hunting.Judged.TheVariants as judged
 use Rattle.interlock_views.specs.declared.hunting.Lines.{Lines}
 use Rattle.interlock_views.specs.declared.reading.RuleLine.{RuleLine}
+
+-- where the device refused what it is said to take, each rule is kept
+pub kept_there : (taken : List ℕ) (plan : Plan) (line : RuleLine) (journal : List Entry) (b : Bool) → ((b ≡ true) ↔ Takes taken (reverse journal)) → b ≡ false
+    → IsKept taken plan line journal
+kept_there taken plan line journal b tells is = λ takes. absurd (false≢true (sym is ∙ tells.1 takes))
+
+-- where it took that, the journal is one that breaks the rule
+pub found_there : (taken : List ℕ) (plan : Plan) (found : Found) (journal : List Entry) (b : Bool) → ((b ≡ true) ↔ Takes taken (reverse journal)) → b ≡ true
+    → IsLegal plan journal → IsComplete plan journal → IsBroken found.line.rule plan journal found.broken → IsFound taken plan found
+found_there taken plan found journal b tells is legal complete broken = record {
+  journal = journal;
+  legal = legal;
+  complete = complete;
+  takes = tells.0 is;
+  broken = broken;
+}
 
 -- none was judged yet
 pub judged_none : (taken : List ℕ) (plan : Plan) (journal : List Entry) (before after : Lines) → after.unbroken.items ≡ [] → after.found.items ≡ before.found.items
@@ -43,3 +64,11 @@ judged_more taken plan journal before old left line (judged.Found found) new so 
           (All-push P old.found.items found so.found (inr (subst (Contains before.unbroken.items) (sym is.0) among, is.1)));
       all = omega (arith, so.all, ap length added.0, ap length added.1, length-append old.found.items (found ∷ []));
     }
+
+-- the rules that were judged, and those that are left, are the same after one more
+pub judged_on : (rules left rest : List RuleLine) (old new : List JudgedRule) (one : JudgedRule) → new ≡ old ++ one ∷ [] → left ≡ one.line ∷ rest
+    → map (λ it. it.line) old ++ left ≡ rules → map (λ it. it.line) new ++ rest ≡ rules
+judged_on rules left rest old new one more took is =
+    let line_of : JudgedRule → RuleLine = λ it. it.line in
+    let first : map line_of new ≡ map line_of old ++ one.line ∷ [] = ap (map line_of) more ∙ map-append line_of old (one ∷ []) in
+    ap (λ l. l ++ rest) first ∙ (append_assoc (map line_of old) (one.line ∷ []) rest ∙ (ap (λ l. map line_of old ++ l) (sym took) ∙ is))

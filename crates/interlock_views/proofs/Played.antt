@@ -4,6 +4,7 @@ use Rattle.std.specs.List.{All, Contains}
 use Rattle.std.proofs.lemmas.List.Elements.{All-push, All-contains, All-contains_itself, All-weaker, All-nil, All-same}
 use Rattle.caa_base.specs.declared.written.entry.Entry.{Entry}
 use Rattle.place_plan.specs.Plans.PlanValue.{Plan}
+use Rattle.place_plan.specs.RulesOfJournals.Journals.{IsLegal, IsComplete}
 use Rattle.interlock_views.specs.Hunts.{IsPlay, IsKept, IsUnbroken, IsFoundOf, IsHunt, HuntsOn}
 use Rattle.interlock_views.specs.inner.Judging.{IsFoundThere, IsUnbrokenStill, AreJudged}
 use Rattle.interlock_views.specs.declared.found.Found.{Found}
@@ -55,6 +56,20 @@ played_on before after journal same_plan same_taken plays play judged = record {
         all = omega (arith, h.all, judged.all);
       };
 }
+
+-- a hunt that played once more, as the code has it: a journal of the plan that came back, judged as a slice
+pub played_so : (before after : Hunt) (told : Plan) (journal entries : List Entry) (taken : List ℕ) → told ≡ before.plan → after.plan ≡ told
+    → after.taken ≡ before.taken → after.plays ≤ before.plays + 1 → IsLegal before.plan journal → IsComplete before.plan journal → entries ≡ journal
+    → taken ≡ before.taken.items
+    → AreJudged taken told entries (record { unbroken = before.unbroken; found = before.found }) (record { unbroken = after.unbroken; found = after.found })
+    → HuntsOn before after
+played_so before after told journal entries taken same_plan is_told same_taken plays legal complete same_entries same_items judged =
+    let old : Lines = record { unbroken = before.unbroken; found = before.found } in
+    let new : Lines = record { unbroken = after.unbroken; found = after.found } in
+    let one : AreJudged taken before.plan entries old new = subst (λ p. AreJudged taken p entries old new) same_plan judged in
+    let two : AreJudged taken before.plan journal old new = subst (λ j. AreJudged taken before.plan j old new) same_entries one in
+    let three : AreJudged before.taken.items before.plan journal old new = subst (λ t. AreJudged t before.plan journal old new) same_items two in
+    played_on before after journal (is_told ∙ same_plan) same_taken plays (record { legal = legal; complete = complete }) three
 
 -- a hunt that goes no further
 pub hunts_still : (hunt : Hunt) → HuntsOn hunt hunt

@@ -5,6 +5,6 @@ use Rattle.interlock_views.proofs.hunting.judge_lines.Given as goal
 
 abbrev pub invariant-loop-line : goal.invariant-loop-line
 invariant-loop-line l = record {
-  left : All (Contains l.fn.lines.open.items) l.line-iterator.rest.items;
+  left : All (Contains l.fn.lines.unbroken.items) l.line-iterator.rest.items;
   so_far : AreJudgedSoFar l.taken l.plan l.entries l.fn.lines l.after (length l.line-iterator.rest.items);
 }
