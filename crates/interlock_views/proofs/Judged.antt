@@ -1,14 +1,11 @@
 -- Rules that are judged by a journal, one after another.
-use Rattle.std.proofs.Common.{◌≡◌, ◌↔◌, ℕ, suc, ◌+◌, Bool, true, false, List, [], ◌∷◌, ◌++◌, length, map, reverse, refl, sym, ap, ◌∙◌, subst, inl, inr, arith, append_assoc, length-append}
+use Rattle.std.proofs.Common.{◌≡◌, ℕ, suc, ◌+◌, List, [], ◌∷◌, ◌++◌, length, map, refl, sym, ap, ◌∙◌, subst, inl, inr, arith, append_assoc, length-append}
 use Rattle.std.specs.List.{All, Contains}
-use Rattle.std.proofs.lemmas.Bool.{false≢true}
 use Rattle.std.proofs.lemmas.List.{map-append}
 use Rattle.std.proofs.lemmas.List.Elements.{All-nil, All-push, All-contains_itself, All-weaker, All-same}
 use Rattle.caa_base.specs.declared.written.entry.Entry.{Entry}
 use Rattle.place_plan.specs.Plans.PlanValue.{Plan}
-use Rattle.place_plan.specs.RulesOfJournals.Journals.{IsLegal, IsComplete}
-use Rattle.interlock_rules.specs.Interlocks.{Takes}
-use Rattle.interlock_views.specs.Broken.{IsBroken, IsFound}
+use Rattle.interlock_views.specs.Broken.{IsFound}
 use Rattle.interlock_views.specs.Hunts.{IsKept}
 use Rattle.interlock_views.specs.inner.Judging.{IsJudgedSo, IsAdded, IsFoundThere, IsUnbrokenStill, AreJudgedSoFar}
 use Rattle.interlock_views.specs.declared.found.Found.{Found}
@@ -17,22 +14,6 @@ use Rattle.interlock_views.specs.declared.hunting.Judged.{Judged}
 use Rattle.interlock_views.specs.declared.hunting.Judged.TheVariants as judged
 use Rattle.interlock_views.specs.declared.hunting.Lines.{Lines}
 use Rattle.interlock_views.specs.declared.reading.RuleLine.{RuleLine}
-
--- where the device refused what it is said to take, each rule is kept
-pub kept_there : (taken : List ℕ) (plan : Plan) (line : RuleLine) (journal : List Entry) (b : Bool) → ((b ≡ true) ↔ Takes taken (reverse journal)) → b ≡ false
-    → IsKept taken plan line journal
-kept_there taken plan line journal b tells is = λ takes. absurd (false≢true (sym is ∙ tells.1 takes))
-
--- where it took that, the journal is one that breaks the rule
-pub found_there : (taken : List ℕ) (plan : Plan) (found : Found) (journal : List Entry) (b : Bool) → ((b ≡ true) ↔ Takes taken (reverse journal)) → b ≡ true
-    → IsLegal plan journal → IsComplete plan journal → IsBroken found.line.rule plan journal found.broken → IsFound taken plan found
-found_there taken plan found journal b tells is legal complete broken = record {
-  journal = journal;
-  legal = legal;
-  complete = complete;
-  takes = tells.0 is;
-  broken = broken;
-}
 
 -- none was judged yet
 pub judged_none : (taken : List ℕ) (plan : Plan) (journal : List Entry) (before after : Lines) → after.unbroken.items ≡ [] → after.found.items ≡ before.found.items

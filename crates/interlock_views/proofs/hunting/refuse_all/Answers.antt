@@ -5,4 +5,4 @@ pub loop-later-init : goal.loop-later-init
 loop-later-init g c = hunts_still c.args.hunt
 
 pub loop-later-preserved : goal.loop-later-preserved
-loop-later-preserved g c = hunts_then c.args.hunt c.loop-later.hunt _ c.loop-later.invariant c.in_ok-refuse_orders.ensures
+loop-later-preserved g c = hunts_then c.args.hunt c.loop-later.hunt _ c.loop-later.invariant c.in_ok-hunt.ensures
