@@ -1,8 +1,9 @@
 //! What a call asks of rules, and what it comes to.
 
+ghost use Rattle.std.specs.List.{list_any};
 ghost use Rattle.std.specs.Prelude.{◌≡◌, IfOk};
 ghost use Rattle.place_plan.specs.RulesOfJournals.WellFormed.{AllWellFormed};
-ghost use Rattle.interlock_views.specs.Told.{is_bad, TellsHunt, TellsJudged};
+ghost use Rattle.interlock_views.specs.Told.{is_bad, is_broken, TellsHunt, TellsJudged};
 
 use crate::found::{Found, JudgedRule, judge_rules};
 use crate::hunting::{Hunt, HuntProgress, hunt_in};
@@ -43,6 +44,20 @@ pub enum RulesTold {
     Refused(Vec<u8>),
 }
 
+/// Whether a journal breaks the rule.
+fn is_broken(rule: &JudgedRule) -> bool
+    ensures { result ≡ is_broken rule.now }
+{
+    rule.broken.is_some()
+}
+
+/// Whether a journal breaks one of these rules.
+fn any_is_broken(judged: &[JudgedRule]) -> bool
+    ensures { result ≡ list_any is_broken judged.now }
+{
+    judged.iter().any(|rule| is_broken(rule))
+}
+
 impl RulesTold {
     /// Whether a rule is broken.
     pub fn is_bad(&self) -> bool
@@ -50,7 +65,7 @@ impl RulesTold {
     {
         match self {
             RulesTold::Hunted { hunt, .. } => !hunt.found.is_empty(),
-            RulesTold::Judged { judged, .. } => judged.iter().any(|rule| rule.broken.is_some()),
+            RulesTold::Judged { judged, .. } => any_is_broken(judged),
             RulesTold::Refused(_) => false,
         }
     }
