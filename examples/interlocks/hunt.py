@@ -135,7 +135,7 @@ class Hunt:
 
     def told(self, script="-", file="<stdin>"):
         """What is told of each rule."""
-        rules, taken = dict(monitor.rules_of("\n".join(self.lines))), f"  where the device takes each put of {' '.join(self.taken)}"
+        rules = dict(monitor.rules_of("\n".join(self.lines)))
         for line, rule in rules.items():
             words = " ".join(self.lines[line - 1].split("#")[0].replace(",", " , ").split()).replace(" ,", ",")
             if line in self.found:
@@ -149,8 +149,8 @@ class Hunt:
                     yield "  " + ", ".join(f"{name} may be {' or '.join(map(str, self.places(name, before)))}" for name in names)
             else:
                 yield f"{file}:{line}: not seen in {self.plays} plays: {words}"
-            if self.taken:
-                yield taken
+        if self.taken:
+            yield f"in journals where the device takes each put of {' '.join(self.taken)}"
 
 
 def main():

@@ -146,12 +146,12 @@ struct Teller<'a> {
 
 impl<'a> Teller<'a> {
     /// Tells that so many of these are done, where it is time to.
-    fn tell_of(&mut self, words: Words, done: u32, all: u32, entries: u64) {
+    fn tell_of(&mut self, counting: Counting, done: u32, all: u32, entries: u64) {
         if entries < self.next {
             return;
         }
         self.next = entries.saturating_add(EACH);
-        if let Ok(line) = progress_line(self.rt.alloc(), words, done, all) {
+        if let Ok(line) = progress_line(self.rt.alloc(), counting, done, all) {
             write_shown(self.rt, &line, false);
         }
     }
@@ -159,40 +159,45 @@ impl<'a> Teller<'a> {
 
 impl<'a> Progress for Teller<'a> {
     fn tell(&mut self, done: u32, schedules: u32, entries: u64) {
-        let words = Words {
+        let counting = Counting {
             view: "faults: ",
             what: " schedules\n",
         };
-        self.tell_of(words, done, schedules, entries);
+        self.tell_of(counting, done, schedules, entries);
     }
 }
 
 impl<'a> HuntProgress for Teller<'a> {
     fn tell(&mut self, plays: u32, most: u32, entries: u64) {
-        let words = Words {
+        let counting = Counting {
             view: "interlock: ",
             what: " plays\n",
         };
-        self.tell_of(words, plays, most, entries);
+        self.tell_of(counting, plays, most, entries);
     }
 }
 
 /// The view that tells how far it has come, and what it counts.
 #[derive(Clone, Copy)]
-struct Words {
+struct Counting {
     view: &'static str,
     what: &'static str,
 }
 
 /// A line that tells how far a view of plays has come.
-fn progress_line(alloc: Global, words: Words, done: u32, all: u32) -> Result<Vec<u8>, OutOfMemory> {
+fn progress_line(
+    alloc: Global,
+    counting: Counting,
+    done: u32,
+    all: u32,
+) -> Result<Vec<u8>, OutOfMemory> {
     let mut page = Page::new(alloc, &[]);
     page.say(&[
-        Piece::Text(words.view),
+        Piece::Text(counting.view),
         Piece::Number(u64::from(done)),
         Piece::Text(" of "),
         Piece::Number(u64::from(all)),
-        Piece::Text(words.what),
+        Piece::Text(counting.what),
     ])?;
     Ok(page.into_text())
 }

@@ -1,11 +1,13 @@
 -- What a hunt says after one more play.
-use Rattle.std.proofs.Common.{◌≡◌, ℕ, ◌+◌, ◌≤◌, List, [], ◌∷◌, ◌++◌, length, refl, sym, ap, ◌∙◌, subst, inl, inr, arith, length-append, Vec, Global}
+use Rattle.std.proofs.Common.{◌≡◌, ℕ, ◌+◌, ◌≤◌, List, [], ◌∷◌, ◌++◌, length, refl, sym, ap, ◌∙◌, subst, subst₂, inl, inr, arith, length-append, append-nil, Vec, Global, IsPermutation}
 use Rattle.std.specs.List.{All, Contains}
 use Rattle.std.proofs.lemmas.List.Elements.{All-push, All-contains, All-contains_itself, All-weaker, All-nil, All-same}
+use Rattle.std.proofs.lemmas.List.Sorted.{IsPermutation-refl, IsPermutation-trans}
 use Rattle.caa_base.specs.declared.written.entry.Entry.{Entry}
 use Rattle.place_plan.specs.Plans.PlanValue.{Plan}
 use Rattle.place_plan.specs.RulesOfJournals.Journals.{IsLegal, IsComplete}
-use Rattle.interlock_views.specs.Hunts.{IsPlay, IsKept, IsUnbroken, IsFoundOf, IsHunt, HuntsOn}
+use Rattle.interlock_views.specs.Broken.{IsFound}
+use Rattle.interlock_views.specs.Hunts.{IsPlay, IsKept, IsUnbroken, IsHunt, HuntsOn, lines_of}
 use Rattle.interlock_views.specs.inner.Judging.{IsFoundThere, IsUnbrokenStill, AreJudged}
 use Rattle.interlock_views.specs.declared.found.Found.{Found}
 use Rattle.interlock_views.specs.declared.hunting.Hunt.{Hunt}
@@ -13,21 +15,17 @@ use Rattle.interlock_views.specs.declared.hunting.Lines.{Lines}
 use Rattle.interlock_views.specs.declared.reading.RuleLine.{RuleLine}
 
 -- a rule that is unbroken after one more play
-still_unbroken : (rules : List RuleLine) (taken : List ℕ) (plan : Plan) (played : List (List Entry)) (journal : List Entry) (before : Lines)
-    → All (IsUnbroken rules taken plan played) before.unbroken.items → (line : RuleLine) → IsUnbrokenStill taken plan journal before line
-    → IsUnbroken rules taken plan (played ++ journal ∷ []) line
-still_unbroken rules taken plan played journal before unbroken line is =
-    let was : IsUnbroken rules taken plan played line = All-contains (IsUnbroken rules taken plan played) before.unbroken.items line unbroken is.0 in
-    record { among = was.among; kept = All-push (IsKept taken plan line) played journal was.kept is.1 }
+still_unbroken : (taken : List ℕ) (plan : Plan) (played : List (List Entry)) (journal : List Entry) (before : Lines)
+    → All (IsUnbroken taken plan played) before.unbroken.items → (line : RuleLine) → IsUnbrokenStill taken plan journal before line
+    → IsUnbroken taken plan (played ++ journal ∷ []) line
+still_unbroken taken plan played journal before unbroken line is =
+    All-push (IsKept taken plan line) played journal (All-contains (IsUnbroken taken plan played) before.unbroken.items line unbroken is.0) is.1
 
 -- a rule that is found broken after one more play
-found_now : (rules : List RuleLine) (taken : List ℕ) (plan : Plan) (played : List (List Entry)) (before : Lines)
-    → All (IsUnbroken rules taken plan played) before.unbroken.items → All (IsFoundOf rules taken plan) before.found.items
-    → (found : Found) → IsFoundThere taken plan before found → IsFoundOf rules taken plan found
-found_now rules taken plan played before unbroken old found (inl was) = All-contains (IsFoundOf rules taken plan) before.found.items found old was
-found_now rules taken plan played before unbroken old found (inr is) =
-    let was : IsUnbroken rules taken plan played found.line = All-contains (IsUnbroken rules taken plan played) before.unbroken.items found.line unbroken is.0 in
-    record { among = was.among; is = is.1 }
+found_now : (taken : List ℕ) (plan : Plan) (before : Lines) → All (IsFound taken plan) before.found.items
+    → (found : Found) → IsFoundThere taken plan before found → IsFound taken plan found
+found_now taken plan before old found (inl was) = All-contains (IsFound taken plan) before.found.items found old was
+found_now taken plan before old found (inr is) = is
 
 -- a hunt that played once more
 pub played_on : (before after : Hunt) (journal : List Entry) → after.plan ≡ before.plan → after.taken ≡ before.taken → after.plays ≤ before.plays + 1
@@ -41,19 +39,17 @@ played_on before after journal same_plan same_taken plays play judged = record {
       let taken = before.taken.items in
       let same_items : after.taken.items ≡ before.taken.items = ap (λ (v : Vec ℕ Global). v.items) same_taken in
       let lines : Lines = record { unbroken = before.unbroken; found = before.found } in
-      let unbroken = All-weaker (IsUnbrokenStill taken before.plan journal lines) (IsUnbroken rules taken before.plan (h.played ++ journal ∷ []))
-      (still_unbroken rules taken before.plan h.played journal lines h.unbroken) after.unbroken.items judged.unbroken in
-      let found = All-weaker (IsFoundThere taken before.plan lines) (IsFoundOf rules taken before.plan)
-      (found_now rules taken before.plan h.played lines h.unbroken h.found) after.found.items judged.found in
+      let unbroken = All-weaker (IsUnbrokenStill taken before.plan journal lines) (IsUnbroken taken before.plan (h.played ++ journal ∷ []))
+      (still_unbroken taken before.plan h.played journal lines h.unbroken) after.unbroken.items judged.unbroken in
+      let found = All-weaker (IsFoundThere taken before.plan lines) (IsFound taken before.plan)
+      (found_now taken before.plan lines h.found) after.found.items judged.found in
       record {
         played = h.played ++ journal ∷ [];
         plays = omega (arith, h.plays, plays, length-append h.played (journal ∷ []));
         legal = subst (λ p. All (IsPlay p) (h.played ++ journal ∷ [])) (sym same_plan) (All-push (IsPlay before.plan) h.played journal h.legal play);
-        found = subst (λ t. All (IsFoundOf rules t after.plan) after.found.items) (sym same_items)
-            (subst (λ p. All (IsFoundOf rules taken p) after.found.items) (sym same_plan) found);
-        unbroken = subst (λ t. All (IsUnbroken rules t after.plan (h.played ++ journal ∷ [])) after.unbroken.items) (sym same_items)
-            (subst (λ p. All (IsUnbroken rules taken p (h.played ++ journal ∷ [])) after.unbroken.items) (sym same_plan) unbroken);
-        all = omega (arith, h.all, judged.all);
+        rules_are = IsPermutation-trans _ _ _ h.rules_are judged.rules_are;
+        unbroken = subst₂ (λ t p. All (IsUnbroken t p (h.played ++ journal ∷ [])) after.unbroken.items) (sym same_items) (sym same_plan) unbroken;
+        found = subst₂ (λ t p. All (IsFound t p) after.found.items) (sym same_items) (sym same_plan) found;
       };
 }
 
@@ -89,10 +85,9 @@ hunt_begins hunt none empty = record {
   played = [];
   plays = omega (arith, none);
   legal = All-nil (IsPlay hunt.plan);
-  found = All-same (IsFoundOf hunt.unbroken.items hunt.taken.items hunt.plan) hunt.found.items [] empty
-      (All-nil (IsFoundOf hunt.unbroken.items hunt.taken.items hunt.plan));
-  unbroken = All-weaker (Contains hunt.unbroken.items) (IsUnbroken hunt.unbroken.items hunt.taken.items hunt.plan [])
-      (λ line is. record { among = is; kept = All-nil (IsKept hunt.taken.items hunt.plan line) }) hunt.unbroken.items
-      (All-contains_itself hunt.unbroken.items);
-  all = subst (λ l. length hunt.unbroken.items + length l ≡ length hunt.unbroken.items) (sym empty) (omega arith);
+  rules_are = subst (λ l. IsPermutation hunt.unbroken.items (hunt.unbroken.items ++ lines_of l)) (sym empty)
+      (subst (IsPermutation hunt.unbroken.items) (sym (append-nil hunt.unbroken.items)) (IsPermutation-refl hunt.unbroken.items));
+  unbroken = All-weaker (Contains hunt.unbroken.items) (IsUnbroken hunt.taken.items hunt.plan [])
+      (λ line is. All-nil (IsKept hunt.taken.items hunt.plan line)) hunt.unbroken.items (All-contains_itself hunt.unbroken.items);
+  found = All-same (IsFound hunt.taken.items hunt.plan) hunt.found.items [] empty (All-nil (IsFound hunt.taken.items hunt.plan));
 }

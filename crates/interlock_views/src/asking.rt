@@ -112,10 +112,11 @@ fn hunt_text(
     let mut page = Page::new(alloc, &[]);
     for number in numbers {
         match found_at(&hunt.found, *number) {
-            Some(found) => telling.say_found(&mut page, found, &hunt.taken)?,
-            None => telling.say_not_seen(&mut page, *number, hunt.plays, &hunt.taken)?,
+            Some(found) => telling.say_found(&mut page, found)?,
+            None => telling.say_not_seen(&mut page, *number, hunt.plays)?,
         }
     }
+    telling.say_taken(&mut page, &hunt.taken)?;
     Ok(page.into_text())
 }
 

@@ -111,12 +111,12 @@ impl<'a> Telling<'a> {
         Ok(())
     }
 
-    /// Says of a rule with what a device it was broken, or not seen so.
-    fn say_taken(&self, page: &mut Page, taken: &[Object]) -> Result<(), OutOfMemory> {
+    /// Says what the device takes in the journals of a hunt, if that is taken for granted of it.
+    pub fn say_taken(&self, page: &mut Page, taken: &[Object]) -> Result<(), OutOfMemory> {
         if taken.is_empty() {
             return Ok(());
         }
-        page.say(&[Piece::Text("  where the device takes each put of")])?;
+        page.say(&[Piece::Text("in journals where the device takes each put of")])?;
         self.say_objects(page, taken)?;
         page.say(&[Piece::Text("\n")])
     }
@@ -148,16 +148,10 @@ impl<'a> Telling<'a> {
     }
 
     /// Says of a rule that a journal of a hunt breaks it.
-    pub fn say_found(
-        &self,
-        page: &mut Page,
-        found: &Found,
-        taken: &[Object],
-    ) -> Result<(), OutOfMemory> {
+    pub fn say_found(&self, page: &mut Page, found: &Found) -> Result<(), OutOfMemory> {
         self.say_head(page, found.line.number, &[Piece::Text("broken")])?;
         self.say_found_by(page, found)?;
-        self.say_all_whereabouts(page, &found.broken)?;
-        self.say_taken(page, taken)
+        self.say_all_whereabouts(page, &found.broken)
     }
 
     /// Says of a rule that so many journals keep it.
@@ -166,7 +160,6 @@ impl<'a> Telling<'a> {
         page: &mut Page,
         number: u32,
         plays: u32,
-        taken: &[Object],
     ) -> Result<(), OutOfMemory> {
         self.say_head(
             page,
@@ -176,8 +169,7 @@ impl<'a> Telling<'a> {
                 Piece::Number(u64::from(plays)),
                 Piece::Text(" plays"),
             ],
-        )?;
-        self.say_taken(page, taken)
+        )
     }
 
     /// Says of a rule that the journal behind the script breaks it.

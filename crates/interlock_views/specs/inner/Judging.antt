@@ -1,10 +1,10 @@
 -- What one play of a hunt comes to.
-use Rattle.std.specs.Prelude.{◌≡◌, ◌⊎◌, ℕ, ◌+◌, List, [], ◌∷◌, ◌++◌, length}
+use Rattle.std.specs.Prelude.{◌≡◌, ◌⊎◌, ℕ, List, [], ◌∷◌, ◌++◌, IsPermutation}
 use Rattle.std.specs.List.{All, Contains}
 use Rattle.caa_base.specs.declared.written.entry.Entry.{Entry}
 use Rattle.place_plan.specs.Plans.PlanValue.{Plan}
 use Rattle.interlock_views.specs.Broken.{IsFound}
-use Rattle.interlock_views.specs.Hunts.{IsKept}
+use Rattle.interlock_views.specs.Hunts.{IsKept, lines_of}
 use Rattle.interlock_views.specs.declared.found.Found.{Found}
 use Rattle.interlock_views.specs.declared.hunting.Judged.{Judged}
 use Rattle.interlock_views.specs.declared.hunting.Judged.TheVariants as judged
@@ -21,20 +21,21 @@ abbrev pub IsAdded : Lines → Judged → Lines → Type 0
 IsAdded before (judged.Unbroken line) after = (after.unbroken.items ≡ before.unbroken.items ++ line ∷ []) × (after.found.items ≡ before.found.items)
 IsAdded before (judged.Found found) after = (after.unbroken.items ≡ before.unbroken.items) × (after.found.items ≡ before.found.items ++ found ∷ [])
 
--- a rule that was found broken before, or one that was unbroken and is found broken
+-- a rule that was found broken before, or is found broken now
 abbrev pub IsFoundThere : List ℕ → Plan → Lines → Found → Type 0
-IsFoundThere taken plan before found = Contains before.found.items found ⊎ (Contains before.unbroken.items found.line × IsFound taken plan found)
+IsFoundThere taken plan before found = Contains before.found.items found ⊎ IsFound taken plan found
 
 -- a rule that was unbroken, and that the journal keeps
 abbrev pub IsUnbrokenStill : List ℕ → Plan → List Entry → Lines → RuleLine → Type 0
 IsUnbrokenStill taken plan journal before line = Contains before.unbroken.items line × IsKept taken plan line journal
 
--- each rule that was unbroken is unbroken still, and the journal keeps it, or found broken; so many are left to be judged
-pub record AreJudgedSoFar (taken : List ℕ) (plan : Plan) (journal : List Entry) (before after : Lines) (left : ℕ) : Type 0 where
+-- each rule that was unbroken is unbroken still, and the journal keeps it, or found broken, or among these, which are left to be judged
+pub record AreJudgedSoFar (taken : List ℕ) (plan : Plan) (journal : List Entry) (before after : Lines) (left : List RuleLine) : Type 0 where
   pub unbroken : All (IsUnbrokenStill taken plan journal before) after.unbroken.items
   pub found : All (IsFoundThere taken plan before) after.found.items
-  pub all : left + (length after.unbroken.items + length after.found.items) ≡ length before.unbroken.items + length before.found.items
+  pub rules_are : IsPermutation (before.unbroken.items ++ lines_of before.found.items)
+      (left ++ (after.unbroken.items ++ lines_of after.found.items))
 
 -- a journal was judged by all rules that were unbroken
 abbrev pub AreJudged : List ℕ → Plan → List Entry → Lines → Lines → Type 0
-AreJudged taken plan journal before after = AreJudgedSoFar taken plan journal before after 0
+AreJudged taken plan journal before after = AreJudgedSoFar taken plan journal before after []

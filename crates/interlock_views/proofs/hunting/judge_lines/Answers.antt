@@ -1,4 +1,4 @@
-use Rattle.std.proofs.Common.{length, refl, sym, subst}
+use Rattle.std.proofs.Common.{refl, sym, subst}
 use Rattle.std.specs.List.{All, Contains}
 use Rattle.std.proofs.lemmas.List.Elements.{All-head, All-rest, All-same, All-contains_itself}
 use Rattle.interlock_views.specs.inner.Judging.{AreJudgedSoFar}
@@ -14,7 +14,7 @@ loop-line-init c =
     record {
       left = All-same (Contains lines.unbroken.items) c.into_iter-line-iterator.result.rest.items lines.unbroken.items begun
           (All-contains_itself lines.unbroken.items);
-      so_far = subst (λ l. AreJudgedSoFar taken plan journal lines after (length l)) (sym begun)
+      so_far = subst (AreJudgedSoFar taken plan journal lines after) (sym begun)
           (judged_none taken plan journal lines after c.new.ensures.items refl);
     }
 
@@ -26,7 +26,7 @@ loop-line-preserved c =
     let taken = c.args.taken.now in let plan = c.args.plan.now in let journal = c.args.entries.now in
     record {
       left = All-rest P c.in-Some.line rest c.loop-line.line-iterator.rest.items took inv.left;
-      so_far = judged_more taken plan journal lines old (length rest) c.in-Some.line c.in_ok-judged.judged c.add_judged.new.lines
-          (subst (λ l. AreJudgedSoFar taken plan journal lines old (length l)) took inv.so_far)
+      so_far = judged_more taken plan journal lines old rest c.in-Some.line c.in_ok-judged.judged c.add_judged.new.lines
+          (subst (AreJudgedSoFar taken plan journal lines old) took inv.so_far)
           (All-head P c.in-Some.line rest (subst (All P) took inv.left)) c.in_ok-judged.ensures c.in_ok-add_judged.ensures;
     }
