@@ -1,1 +1,3 @@
-pub mod NamesKept
+pub mod Kept
+pub mod Alike
+pub mod Still

@@ -26,7 +26,6 @@ use std::fs::File;
 use std::io::{BufWriter, IsTerminal};
 use std::process::ExitCode;
 use std::sync::Wait;
-use std::sync::atomic::AtomicBool;
 use std::thread::Threads;
 
 /// After how many entries it is told how far all is, where standard error is a terminal.
@@ -64,7 +63,6 @@ fn play_on<R: Threads + Wait + Sync>(
     file: File,
 ) -> Result<u8, OutOfMemory> {
     let alloc = rt.alloc();
-    let is_over = AtomicBool::new(false);
     let Ok(commands) = BufWriter::new(alloc, rt.stdout()) else {
         return Err(OutOfMemory);
     };
@@ -78,17 +76,16 @@ fn play_on<R: Threads + Wait + Sync>(
         StdSource::new(rt.stdin()),
         FlushedSink::new(commands),
         rt.stderr(),
-        &is_over,
+        call.goes_on,
         FileSink::new(file, call.syncs),
-        Watcher::new(rt.stderr(), &is_over, call.goes_on, each),
+        Watcher::new(rt.stderr(), call.goes_on, each),
     )?;
     let LoggedEnd {
         status,
-        plant: mut device,
+        plant: device,
         journal,
         sink: _,
     } = end;
-    device.heed();
     tell_status(&mut operator, status, call, !journal.is_empty());
     Ok(match plan {
         Some(plan) if !journal.is_empty() => {

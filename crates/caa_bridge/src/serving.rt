@@ -23,12 +23,10 @@ use place_plan::plans::plan::Plan;
 use std::alloc::Global;
 use std::io::Write;
 use std::sync::Wait;
-use std::sync::atomic::AtomicBool;
 use std::thread::Threads;
 
 /// Serves the words, in threads where they ask for that.
 fn call<
-    'a,
     S: Source,
     K: Sink + Drop + Send,
     A: Source + Drop + Send,
@@ -42,14 +40,14 @@ fn call<
     words: &[String],
     source: &mut S,
     sink: K,
-    device: Noted<'a, A, C, O>,
+    device: Noted<A, C, O>,
     watcher: W,
-) -> LoggedEnd<Noted<'a, A, C, O>, K>
+) -> LoggedEnd<Noted<A, C, O>, K>
     requires fresh { IsFresh ⟦<K as Sink>⟧ sink }
     requires alike { TellsAlike ⟦<K as Sink>⟧ }
     ensures answer { ∥ LogAnswers
-        (call_over ⟦<S as Source>⟧ ⟦<Noted<'a, A, C, O> as Plant>⟧ (served_of (command_of (map string_bytes words.now)))
-        source.old source.new device.entry result.plant result.journal.entries)
+        (call_over ⟦<S as Source>⟧ ⟦<Noted<A, C, O> as Plant>⟧ (served_of (command_of (map string_bytes words.now)))
+        source.old source.new device result.plant result.journal.entries)
         (sink_use ⟦<K as Sink>⟧ sink result.sink)
         result.status ∥₁ }
 {
@@ -67,16 +65,17 @@ pub struct Serving<P, K> {
     pub plan: Option<Plan>,
 }
 
-/// A device with the objects of the script of these bytes, and the plan of that, if it has one.
-fn device_for<'a, A: Source + Drop, C: Sink + Drop, O: Write + Drop>(
+/// A device with the objects of the script of these bytes, and the plan of that, if it has one. It is given up when a play has failed,
+/// unless it goes on.
+fn device_for<A: Source + Drop, C: Sink + Drop, O: Write + Drop>(
     alloc: Global,
     script: &[u8],
     answers: A,
     commands: C,
     operator: O,
-    is_over: &'a AtomicBool,
-) -> Result<(Option<Plan>, Noted<'a, A, C, O>), OutOfMemory>
-    ensures { IfOk result (λ made. IsMadeFor script.now (C.held commands) made.1.plant) }
+    goes_on: bool,
+) -> Result<(Option<Plan>, Noted<A, C, O>), OutOfMemory>
+    ensures { IfOk result (λ made. IsMadeFor script.now goes_on (A.left answers) (C.held commands) made.0 made.1.plant) }
 {
     let plan = match plan_of(alloc, script) {
         Ok(plan) => Some(plan),
@@ -84,19 +83,19 @@ fn device_for<'a, A: Source + Drop, C: Sink + Drop, O: Write + Drop>(
         Err(NoPlan::OutOfMemory) => return Err(OutOfMemory),
     };
     let plant = match &plan {
-        Some(plan) => LinePlant::for_plan(alloc, plan, answers, commands)?,
-        None => LinePlant::new(alloc, Vec::new(alloc), answers, commands),
+        Some(plan) => LinePlant::for_plan(alloc, plan, goes_on, answers, commands)?,
+        None => LinePlant::new(alloc, Vec::new(alloc), Vec::new(alloc), answers, commands),
     };
-    Ok((plan, Noted::new(plant, operator, is_over)))
+    Ok((plan, Noted::new(plant, operator)))
 }
 
 /// Serves the words as `caa` does, over a device of lines that it makes for the script of these bytes, and writes the journal of `sim`,
 /// `run` and `pool` as it is played.
 ///
 /// What the device was ever asked for, by the use that the call made of it, is what was sent on its wire, line by line, with the names
-/// of the script's objects. It need not return. Where no memory is found for the device, nothing was asked.
+/// of the script's objects, whose plan is handed back; and just what was done was answered `well` there. Once a play has failed, it does nothing more, and `stop`
+/// is sent, unless it goes on. The call need not return. Where no memory is found for the device, nothing was asked.
 pub fn serve<
-    'a,
     K: Sink + Drop + Send,
     A: Source + Drop + Send,
     C: Sink + Drop + Send,
@@ -111,17 +110,17 @@ pub fn serve<
     answers: A,
     commands: C,
     operator: O,
-    is_over: &'a AtomicBool,
+    goes_on: bool,
     sink: K,
     watcher: W,
-) -> Result<Serving<Noted<'a, A, C, O>, K>, OutOfMemory>
+) -> Result<Serving<Noted<A, C, O>, K>, OutOfMemory>
     requires fresh { IsFresh ⟦<K as Sink>⟧ sink }
     requires alike { TellsAlike ⟦<K as Sink>⟧ }
-    ensures { IfOk result (λ s. ∥ Serves ⟦<SureSource as Source>⟧ ⟦<Noted<'a, A, C, O> as Plant>⟧ ⟦<C as Sink>⟧ (λ p. p.plant)
-        (command_of (map string_bytes words.now)) script.now (C.held commands) s.end.plant s.end.journal.entries
+    ensures { IfOk result (λ s. ∥ Serves ⟦<SureSource as Source>⟧ ⟦<Noted<A, C, O> as Plant>⟧ ⟦<A as Source>⟧ ⟦<C as Sink>⟧ (λ p. p.plant)
+        (command_of (map string_bytes words.now)) script.now goes_on (A.left answers) (C.held commands) s.plan s.end.plant s.end.journal.entries
         (sink_use ⟦<K as Sink>⟧ sink s.end.sink) s.end.status ∥₁) }
 {
-    let (plan, device) = device_for(alloc, script, answers, commands, operator, is_over)?;
+    let (plan, device) = device_for(alloc, script, answers, commands, operator, goes_on)?;
     let mut source = SureSource::new(alloc, script)?;
     let end = call(rt, alloc, words, &mut source, sink, device, watcher);
     end.plant.plant.sent();

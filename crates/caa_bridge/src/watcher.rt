@@ -6,15 +6,15 @@ use journal_text::texts::text_writer::told_name;
 use place_plan::plans::plan::Plan;
 use place_plan::rules::one_entry::{ends_play, outcome_at};
 use std::io::Write;
-use std::sync::atomic::{AtomicBool, Ordering};
 
-/// It raises a flag when a play has ended as failed, so that the device is given up. It tells an operator of each play that ended
-/// otherwise than by commit, as long as the device isn't given up, and how far all plays are.
+/// It tells an operator of each play that ended otherwise than by commit, up to the first that failed, by which the device is given up
+/// unless it goes on; and how far all plays are.
 #[derive(Drop)]
-pub struct Watcher<'a, W> {
+pub struct Watcher<W> {
     operator: W,
-    is_over: &'a AtomicBool,
     goes_on: bool,
+    /// Whether the device was given up.
+    is_over: bool,
     each: u64,
     entries: u64,
 }
@@ -29,14 +29,14 @@ fn play_number(plan: &Plan, place: Place) -> u64 {
     0
 }
 
-impl<'a, W: Write> Watcher<'a, W> {
-    /// One that raises this flag, unless the device is still asked after a play that failed. It tells how far all is after each so many
-    /// entries; never, where that is 0.
-    pub fn new(operator: W, is_over: &'a AtomicBool, goes_on: bool, each: u64) -> Self {
+impl<W: Write> Watcher<W> {
+    /// One over a device that is given up when a play has failed, or goes on. It tells how far all is after each so many entries; never,
+    /// where that is 0.
+    pub fn new(operator: W, goes_on: bool, each: u64) -> Self {
         Watcher {
             operator,
-            is_over,
             goes_on,
+            is_over: false,
             each,
             entries: 0,
         }
@@ -64,11 +64,11 @@ impl<'a, W: Write> Watcher<'a, W> {
 
     /// A play has ended so.
     fn note_end(&mut self, plan: &Plan, entry: &Entry, outcome: Outcome) {
-        if outcome != Outcome::Commit && !self.is_over.load(Ordering::SeqCst) {
+        if outcome != Outcome::Commit && !self.is_over {
             self.tell_end(plan, entry, outcome);
         }
         if outcome == Outcome::Failed && !self.goes_on {
-            self.is_over.store(true, Ordering::SeqCst);
+            self.is_over = true;
         }
     }
 
@@ -82,7 +82,7 @@ impl<'a, W: Write> Watcher<'a, W> {
     }
 }
 
-impl<W: Write> Watch for Watcher<'_, W> {
+impl<W: Write> Watch for Watcher<W> {
     fn saw(&mut self, plan: &Plan, entry: &Entry) {
         self.count(plan);
         if ends_play(plan, entry) {

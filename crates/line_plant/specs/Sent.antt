@@ -1,10 +1,11 @@
--- What a device was sent, by all that ever came to it.
+-- What a device was sent, and what it answered, by all that ever came to it.
 use Rattle.std.specs.Prelude.{◌≡◌, ◌⊎◌, if◌then◌else◌, ℕ, Bool, false, List, [], ◌∷◌, ◌++◌}
 use mathlib.Core.List.{IsPrefix}
 use Rattle.caa_base.specs.Outside.Counts.{counted_up}
 use Rattle.caa_base.specs.Written.Names.{name_at}
 use Rattle.caa_base.specs.declared.outside.plant.Asked.{Asked}
 use Rattle.caa_base.specs.declared.outside.plant.Asked.TheVariants as asked
+use Rattle.line_plant.specs.Answers.{well_line, failed_line}
 use Rattle.line_plant.specs.Lines.{lay_line, asking_line, put_word, restore_word, stop_line}
 
 -- it was asked for, and done
@@ -35,13 +36,18 @@ IsSilent (asked.Laid values drills puts done) = done ≡ false
 IsSilent (asked.Put object value back done) = ⊥
 IsSilent (asked.Entered e) = Unit {0}
 
--- these bytes are the lines of all this, one behind the other, with the numbers from `number` on, and `after` is the next one
-abbrev pub AreLines : List (List ℕ) → ℕ → List Asked → ℕ → List ℕ → Type 0
-AreLines names number [] after bytes = (after ≡ number) × (bytes ≡ [])
-AreLines names number (a ∷ more) after bytes =
-    ((line : List ℕ) × (behind : List ℕ) × AsksFor names number a line × AreLines names (counted_up number) more after behind
-    × (bytes ≡ line ++ behind))
-    ⊎ (IsSilent a × AreLines names number more after bytes)
+-- the line by which a device answers the one of this number: that it did what it was asked for, or that it refused
+abbrev pub answer_line : ℕ → Asked → List ℕ
+answer_line number a = if was_done a then well_line number else failed_line number
+
+-- these bytes are the lines of all this, one behind the other, with the numbers from `number` on, and those are the lines that answer
+-- them; `after` is the next number
+abbrev pub AreLines : List (List ℕ) → ℕ → List Asked → ℕ → List ℕ → List ℕ → Type 0
+AreLines names number [] after bytes answers = (after ≡ number) × (bytes ≡ []) × (answers ≡ [])
+AreLines names number (a ∷ more) after bytes answers =
+    ((line : List ℕ) × (behind : List ℕ) × (later : List ℕ) × AsksFor names number a line
+    × AreLines names (counted_up number) more after behind later × (bytes ≡ line ++ behind) × (answers ≡ answer_line number a ++ later))
+    ⊎ (IsSilent a × AreLines names number more after bytes answers)
 
 -- of what got no answer these bytes were sent: nothing, or a front of the line of the first, which may be all of it
 abbrev pub IsUnanswered : List (List ℕ) → ℕ → List Asked → List ℕ → Type 0
@@ -53,17 +59,17 @@ abbrev pub IsUncut : List (List ℕ) → ℕ → List Asked → List ℕ → Typ
 IsUncut names number [] bytes = bytes ≡ []
 IsUncut names number (a ∷ more) bytes = (bytes ≡ []) ⊎ AsksFor names number a bytes
 
--- a device was sent these bytes by what it was asked for: a line for each thing, in order, as long as it answered; from the first on
--- that it didn't answer nothing was done, and nothing was sent but at most a front of the line of that one. Last of all, and only
--- behind whole lines, come these bytes of `stop`
-pub record WasSent (names : List (List ℕ)) (all : List Asked) (stop bytes : List ℕ) : Type 0 where
+-- a device was sent these bytes by what it was asked for: a line for each thing, in order, as long as it answered, by these answers; from
+-- the first on that it didn't answer nothing was done, and nothing was sent but at most a front of the line of that one. Last of all,
+-- and only behind whole lines, come these bytes of `stop`
+pub record WasSent (names : List (List ℕ)) (all : List Asked) (stop bytes answers : List ℕ) : Type 0 where
   pub answered : List Asked
   pub unanswered : List Asked
   pub parts : all ≡ answered ++ unanswered
   pub none_done : NoneDone unanswered
   pub next : ℕ
   pub lines : List ℕ
-  pub in_lines : AreLines names 0 answered next lines
+  pub in_lines : AreLines names 0 answered next lines answers
   pub last : List ℕ
   pub is_last : IsUnanswered names next unanswered last
   pub is_front : IsPrefix stop stop_line

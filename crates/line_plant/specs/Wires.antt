@@ -70,18 +70,24 @@ pub record WroteLinePart {K : Type 0} (sinks : SinkGhosts K) (before after : K) 
 pub record SentStop {S K : Type 0} (sinks : SinkGhosts K) (before after : Wire S K) : Type 0 where
   pub uncut : before.is_cut ≡ false
   pub first : before.was_stopped ≡ false
-  pub sent : WroteLine sinks before.commands after.commands stop_line ⊎ WroteLinePart sinks before.commands after.commands stop_line
+  pub sent :
+      (WroteLine sinks before.commands after.commands stop_line × (after.is_cut ≡ false))
+      ⊎ (WroteLinePart sinks before.commands after.commands stop_line × (after.is_cut ≡ true))
 
 -- `stop` was sent before, or a line was cut off, behind which it could be taken for a part of that line; nothing was sent
 pub record SentNoStop {S K : Type 0} (before after : Wire S K) : Type 0 where
   pub cause : (before.is_cut ≡ true) ⊎ (before.was_stopped ≡ true)
   pub kept : after.commands ≡ before.commands
+  pub cut : after.is_cut ≡ before.is_cut
+
+-- nothing is sent on the wire any longer, since `stop` was sent or a line was cut off
+pub record IsStopped {S K : Type 0} (wire : Wire S K) : Type 0 where
+  pub broken : wire.is_broken ≡ true
+  pub spent : (wire.is_cut ≡ true) ⊎ (wire.was_stopped ≡ true)
 
 -- what giving up comes to: `stop` is sent once, at most, nobody has to answer it, and nothing is sent any longer
 pub record WasStopped {S K : Type 0} (sinks : SinkGhosts K) (before after : Wire S K) : Type 0 where
   pub came : SentStop sinks before after ⊎ SentNoStop before after
   pub unheard : after.answers ≡ before.answers
   pub numbered : after.next ≡ before.next
-  pub broken : after.is_broken ≡ true
-  pub cut : after.is_cut ≡ before.is_cut
-  pub spent : (after.is_cut ≡ true) ⊎ (after.was_stopped ≡ true)
+  pub ended : IsStopped after

@@ -1,4 +1,5 @@
 ghost use Rattle.std.specs.Prelude.{◌≡◌, None, Some};
+ghost use Rattle.line_plant.specs.Devices.{constants_of};
 
 use crate::heard::{HeardEnd, HeardLine};
 use crate::plant::LinePlant;
@@ -8,7 +9,6 @@ use caa_base::outside::source::Source;
 use caa_base::written::entry::{Drill, Entry, Failed, Object};
 use std::alloc::Global;
 use std::io::Write;
-use std::sync::atomic::{AtomicBool, Ordering};
 
 /// What became of the link to a device.
 #[derive(Clone, Copy, PartialEq, Eq)]
@@ -17,20 +17,16 @@ pub enum Link {
     Whole,
     /// The answer to the line of this number is lost.
     Broken { number: u64 },
-    /// The device was given up from outside.
+    /// A play ended as failed, and the device was given up.
     GivenUp,
 }
 
 /// A device of lines that tells an operator what isn't done: each put that the device refuses, and the first that isn't answered. The
-/// lines that aren't sent after that are counted.
-///
-/// Whoever raises the flag `is_over` gives the device up: the next put, and each after it, is refused and not sent. Wherever the device
-/// is given up, the line `stop` is sent.
+/// lines that aren't sent after that are counted. Wherever the link breaks, the line `stop` is sent.
 #[derive(Drop)]
-pub struct Noted<'a, S, K: Sink, W> {
+pub struct Noted<S: Source, K: Sink, W> {
     pub plant: LinePlant<S, K>,
     operator: W,
-    is_over: &'a AtomicBool,
     link: Link,
     unsent: u64,
 }
@@ -63,8 +59,9 @@ fn tell_heard<W: Write>(operator: &mut W, heard: &HeardLine) {
 fn give_up<S: Source, K: Sink, W: Write>(plant: &mut LinePlant<S, K>, operator: &mut W)
     ensures { plant.new ≡ record plant.old { wire = plant.new.wire } }
 {
+    let was_cut = plant.is_cut();
     plant.stop();
-    if plant.is_cut() {
+    if was_cut {
         let _ = operator.write_all(b"  the line couldn't be written\n");
         return;
     }
@@ -72,15 +69,14 @@ fn give_up<S: Source, K: Sink, W: Write>(plant: &mut LinePlant<S, K>, operator: 
     tell_heard(operator, plant.heard());
 }
 
-impl<'a, S: Source, K: Sink, W: Write> Noted<'a, S, K, W> {
+impl<S: Source, K: Sink, W: Write> Noted<S, K, W> {
     /// This device, with an operator who is told.
-    pub fn new(plant: LinePlant<S, K>, operator: W, is_over: &'a AtomicBool) -> Self
+    pub fn new(plant: LinePlant<S, K>, operator: W) -> Self
         ensures { result.plant ≡ plant }
     {
         Noted {
             plant,
             operator,
-            is_over,
             link: Link::Whole,
             unsent: 0,
         }
@@ -94,16 +90,6 @@ impl<'a, S: Source, K: Sink, W: Write> Noted<'a, S, K, W> {
     /// How many puts weren't sent since the device was given up.
     pub fn unsent(&self) -> u64 {
         self.unsent
-    }
-
-    /// Sends `stop` where the flag was raised since the last put.
-    pub fn heed(&mut self)
-        ensures { self.new.plant ≡ record self.old.plant { wire = self.new.plant.wire } }
-    {
-        if self.link == Link::Whole && self.is_over.load(Ordering::SeqCst) {
-            self.link = Link::GivenUp;
-            self.plant.stop();
-        }
     }
 
     /// Notes that a put of this number wasn't done, and tells it.
@@ -146,7 +132,7 @@ impl<'a, S: Source, K: Sink, W: Write> Noted<'a, S, K, W> {
     }
 }
 
-impl<S: Source, K: Sink, W: Write> Plant for Noted<'_, S, K, W> {
+impl<S: Source, K: Sink, W: Write> Plant for Noted<S, K, W> {
     ghost lay_faults = { λ p. p.plant.lay_faults };
 
     ghost faults = { λ p. p.plant.faults };
@@ -161,7 +147,7 @@ impl<S: Source, K: Sink, W: Write> Plant for Noted<'_, S, K, W> {
 
     ghost objects = { λ p. p.plant.objects };
 
-    ghost constants = { λ p. p.plant.names };
+    ghost constants = { λ p. constants_of p.plant };
 
     fn lay(
         &mut self,
@@ -179,7 +165,6 @@ impl<S: Source, K: Sink, W: Write> Plant for Noted<'_, S, K, W> {
     }
 
     fn put(&mut self, object: Object, value: i64) -> Result<(), Failed> {
-        self.heed();
         let number = self.plant.next_number();
         let result = self.plant.put(object, value);
         if result.is_err() {
@@ -189,7 +174,6 @@ impl<S: Source, K: Sink, W: Write> Plant for Noted<'_, S, K, W> {
     }
 
     fn restore(&mut self, object: Object, value: i64) -> Result<(), Failed> {
-        self.heed();
         let number = self.plant.next_number();
         let result = self.plant.restore(object, value);
         if result.is_err() {
@@ -200,6 +184,9 @@ impl<S: Source, K: Sink, W: Write> Plant for Noted<'_, S, K, W> {
 
     fn entered(&mut self, entry: &Entry) {
         self.plant.entered(entry);
+        if self.link == Link::Whole && self.plant.was_stopped() {
+            self.link = Link::GivenUp;
+        }
     }
 
     fn lay_faults(&self) -> u64 {

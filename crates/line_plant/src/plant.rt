@@ -10,12 +10,14 @@ ghost use Rattle.std.specs.Prelude.{◌≡◌, ◌⊎◌, ◌<◌, ◌≤◌, �
 ghost use Rattle.caa_base.specs.declared.outside.plant.Asked.TheVariants as asked;
 ghost use Rattle.caa_base.specs.Outside.Counts.{counted_up, faults_after};
 ghost use Rattle.caa_base.specs.Outside.PlantState.{is_refused};
+ghost use Rattle.caa_base.specs.Written.Lists.{member};
 ghost use Rattle.caa_base.specs.Written.Names.{name_at};
 ghost use Rattle.line_plant.specs.Lines.{asking_line, object_names, put_word, restore_word};
+ghost use Rattle.line_plant.specs.GivenUp.{fatal_places, says_failed};
 ghost use Rattle.line_plant.specs.Sent.{word_of};
 ghost use Rattle.line_plant.specs.Answers.{is_well};
 ghost use Rattle.line_plant.specs.Wires.{AskCame, WasStopped};
-ghost use Rattle.line_plant.specs.Devices.{LayCame, PutCame, SinkGot};
+ghost use Rattle.line_plant.specs.Devices.{LayCame, PutCame, WireCarried, constants_of};
 ghost use Rattle.line_plant.specs.inner.Room.{most_put_bytes, HasRoom};
 
 use crate::heard::HeardLine;
@@ -28,7 +30,7 @@ use caa_base::outside::count::counted_up;
 use caa_base::outside::plant::{Plant, PlantError};
 use caa_base::outside::sink::Sink;
 use caa_base::outside::source::Source;
-use caa_base::written::entry::{Drill, Entry, Failed, Object, OutOfMemory};
+use caa_base::written::entry::{Drill, Entry, Failed, Kind, Object, OutOfMemory, Outcome, Place};
 use caa_base::written::name::{Name, name_at};
 use place_plan::plans::plan::Plan;
 use std::alloc::Global;
@@ -42,12 +44,18 @@ use std::marker::Model;
 /// another number, the end of the answers, and a read or a write that fails, is an answer that is lost: nobody knows any longer what
 /// the device did. From then on nothing is asked, and each call fails.
 ///
+/// It is given up when it is told that a play has failed, unless it goes on: the line `stop` is sent at once, and from then on nothing is
+/// asked, and each call fails.
+///
 /// The memory for the line of a put is taken when the device is laid out, and kept from one to the next. So a put never wants any.
 #[derive(Drop)]
-pub struct LinePlant<S, K: Sink> {
+pub struct LinePlant<S: Source, K: Sink> {
     names: Vec<Name>,
+    /// The places whose failure ends its use.
+    fatal: Vec<Place>,
     wire: Wire<S, K>,
     told: Told<K>,
+    listened: Told<S>,
     line: Vec<u8>,
     objects: u64,
     calls: u64,
@@ -56,18 +64,20 @@ pub struct LinePlant<S, K: Sink> {
     faults: u64,
 }
 
-impl<S, K: Sink> Model for LinePlant<S, K> {
+impl<S: Source, K: Sink> Model for LinePlant<S, K> {
     ghost use Rattle.std.specs.Prelude.{vec_capacity};
     ghost use Rattle.line_plant.specs.Devices.{LineDevice};
     ghost use Rattle.line_plant.specs.inner.Room.{HasRoom};
-    ghost use Rattle.line_plant.specs.inner.Telling.{Keeps};
+    ghost use Rattle.line_plant.specs.inner.Telling.{Keeps, KeepsStill};
 
     ghost Value = { LineDevice S K };
 
     ghost view = { λ p. record {
       names = p.names.items;
+      fatal = p.fatal.items;
       wire = p.wire;
       start = K.held p.told.opened;
+      to_come = S.left p.listened.opened;
       asked = p.told.asked;
       objects = p.objects;
       calls = p.calls;
@@ -76,7 +86,24 @@ impl<S, K: Sink> Model for LinePlant<S, K> {
       faults = p.faults;
     } };
 
-    ghost invariant = { λ p. HasRoom p.objects p.names.items (vec_capacity p.line) × ∥ Keeps ⟦<K as Sink>⟧ p.names.items p.told p.wire ∥₁ };
+    ghost invariant = { λ p. HasRoom p.objects p.names.items (vec_capacity p.line)
+        × ∥ Keeps ⟦<S as Source>⟧ ⟦<K as Sink>⟧ p.names.items p.listened p.told p.wire × KeepsStill p.fatal.items p.told.asked p.wire ∥₁ };
+}
+
+/// Whether a place is among these.
+fn is_among(places: &[Place], place: Place) -> bool
+    ensures { result ≡ member place places.now }
+{
+    places.iter().any(|other| *other == place)
+}
+
+/// Whether an entry says that one of these places ended as failed.
+fn says_failed(places: &[Place], entry: &Entry) -> bool
+    ensures { result ≡ says_failed places.now entry.now }
+{
+    entry.kind == Kind::End
+        && entry.mark == Outcome::Failed.mark().0
+        && is_among(places, entry.place)
 }
 
 /// The word that asks for a put, by a step or `back` by an undo.
@@ -126,14 +153,17 @@ fn ask_put<S: Source, K: Sink>(
 }
 
 impl<S: Source + Drop, K: Sink + Drop> LinePlant<S, K> {
-    /// A device with the objects of a plan, each by its name, which answers on a source what it is asked on a sink. Nothing is sent yet.
+    /// A device with the objects of a plan, each by its name, which answers on a source what it is asked on a sink. It is given up when
+    /// it is told that a play of the plan has failed, unless it goes on. Nothing is sent yet.
     pub fn for_plan(
         alloc: Global,
         plan: &Plan,
+        goes_on: bool,
         answers: S,
         commands: K,
     ) -> Result<Self, OutOfMemory>
         ensures names { IfOk result (λ device. device.names ≡ object_names plan.now) }
+        ensures fatal { IfOk result (λ device. device.fatal ≡ fatal_places goes_on plan.now) }
         ensures answers { IfOk result (λ device. device.wire.answers ≡ answers) }
         ensures commands { IfOk result (λ device. device.wire.commands ≡ commands) }
         ensures first { IfOk result (λ device. device.wire.next ≡ 0) }
@@ -141,17 +171,25 @@ impl<S: Source + Drop, K: Sink + Drop> LinePlant<S, K> {
         ensures uncut { IfOk result (λ device. device.wire.is_cut ≡ false) }
         ensures unstopped { IfOk result (λ device. device.wire.was_stopped ≡ false) }
         ensures start { IfOk result (λ device. device.start ≡ K.held commands) }
+        ensures to_come { IfOk result (λ device. device.to_come ≡ S.left answers) }
         ensures unasked { IfOk result (λ device. device.asked ≡ []) }
     {
         let names = object_names(alloc, plan)?;
-        Ok(LinePlant::new(alloc, names, answers, commands))
+        let fatal = if goes_on {
+            Vec::new(alloc)
+        } else {
+            plan.play_places().to_vec(alloc)?
+        };
+        Ok(LinePlant::new(alloc, names, fatal, answers, commands))
     }
 }
 
 impl<S: Source, K: Sink> LinePlant<S, K> {
-    /// A device with objects of these names, which answers on a source what it is asked on a sink. Nothing is sent yet.
-    pub fn new(alloc: Global, names: Vec<Name>, answers: S, commands: K) -> Self
+    /// A device with objects of these names, which answers on a source what it is asked on a sink. It is given up when it is told that
+    /// one of these places has failed. Nothing is sent yet.
+    pub fn new(alloc: Global, names: Vec<Name>, fatal: Vec<Place>, answers: S, commands: K) -> Self
         ensures names { result.names ≡ names.items }
+        ensures fatal { result.fatal ≡ fatal.items }
         ensures answers { result.wire.answers ≡ answers }
         ensures commands { result.wire.commands ≡ commands }
         ensures first { result.wire.next ≡ 0 }
@@ -159,13 +197,16 @@ impl<S: Source, K: Sink> LinePlant<S, K> {
         ensures uncut { result.wire.is_cut ≡ false }
         ensures unstopped { result.wire.was_stopped ≡ false }
         ensures start { result.start ≡ K.held commands }
+        ensures to_come { result.to_come ≡ S.left answers }
         ensures unasked { result.asked ≡ [] }
         ensures lay_faults { result.lay_faults ≡ 0 }
         ensures faults { result.faults ≡ 0 }
     {
         LinePlant {
             names,
+            fatal,
             told: Told::over(&commands),
+            listened: Told::over(&answers),
             wire: Wire::new(answers, commands),
             line: Vec::new(alloc),
             objects: 0,
@@ -188,6 +229,13 @@ impl<S: Source, K: Sink> LinePlant<S, K> {
         ensures { result ≡ self.now.wire.is_cut }
     {
         self.wire.is_cut
+    }
+
+    /// Whether `stop` was sent.
+    pub fn was_stopped(&self) -> bool
+        ensures { result ≡ self.now.wire.was_stopped }
+    {
+        self.wire.was_stopped
     }
 
     /// The number of the next line that is answered.
@@ -234,9 +282,9 @@ impl<S: Source, K: Sink> LinePlant<S, K> {
     }
 
     /// What was sent, and what the device was asked for: the lines of all that, in their order, with the names of its objects, and last
-    /// `stop`, if it was given up.
+    /// `stop`, if it was given up. And what was heard: an answer to each line, `well` to just those that were done, as long as it answered.
     pub fn sent(&self)
-        ensures { ∥ SinkGot ⟦<K as Sink>⟧ self.now ∥₁ }
+        ensures { ∥ WireCarried ⟦<S as Source>⟧ ⟦<K as Sink>⟧ self.now ∥₁ }
     {
         let _ = &self.told;
     }
@@ -294,6 +342,8 @@ impl<S: Source, K: Sink> LinePlant<S, K> {
         ensures came { PutCame ⟦<S as Source>⟧ ⟦<K as Sink>⟧ (word_of back) self.old self.new object value result }
         ensures asked { self.new.asked ≡ self.old.asked ++ asked.Put object value back (is_ok result) ∷ [] }
         ensures start { self.new.start ≡ self.old.start }
+        ensures to_come { self.new.to_come ≡ self.old.to_come }
+        ensures fatal { self.new.fatal ≡ self.old.fatal }
         ensures names { self.new.names ≡ self.old.names }
         ensures calls { self.new.calls ≡ self.old.calls + 1 }
         ensures room { self.new.room ≡ self.old.room }
@@ -327,7 +377,7 @@ impl<S: Source, K: Sink> Plant for LinePlant<S, K> {
 
     ghost objects = { λ p. p.objects };
 
-    ghost constants = { λ p. p.names };
+    ghost constants = { λ p. constants_of p };
 
     fn lay(
         &mut self,
@@ -340,6 +390,8 @@ impl<S: Source, K: Sink> Plant for LinePlant<S, K> {
         ensures names { self.new.names ≡ self.old.names }
         ensures asked { self.new.asked ≡ self.old.asked ++ asked.Laid values.now drills.now puts (is_ok result) ∷ [] }
         ensures start { self.new.start ≡ self.old.start }
+        ensures to_come { self.new.to_come ≡ self.old.to_come }
+        ensures fatal { self.new.fatal ≡ self.old.fatal }
         ensures objects { OnOk result (self.new.objects ≡ length values.now) }
         ensures calls { OnOk result (self.new.calls ≡ 0) }
         ensures room { OnOk result (self.new.room ≡ puts) }
@@ -371,6 +423,8 @@ impl<S: Source, K: Sink> Plant for LinePlant<S, K> {
         ensures came { PutCame ⟦<S as Source>⟧ ⟦<K as Sink>⟧ put_word self.old self.new object value result }
         ensures asked { self.new.asked ≡ self.old.asked ++ asked.Put object value false (is_ok result) ∷ [] }
         ensures start { self.new.start ≡ self.old.start }
+        ensures to_come { self.new.to_come ≡ self.old.to_come }
+        ensures fatal { self.new.fatal ≡ self.old.fatal }
         ensures names { self.new.names ≡ self.old.names }
         ensures calls { self.new.calls ≡ self.old.calls + 1 }
         ensures room { self.new.room ≡ self.old.room }
@@ -387,6 +441,8 @@ impl<S: Source, K: Sink> Plant for LinePlant<S, K> {
         ensures came { PutCame ⟦<S as Source>⟧ ⟦<K as Sink>⟧ restore_word self.old self.new object value result }
         ensures asked { self.new.asked ≡ self.old.asked ++ asked.Put object value true (is_ok result) ∷ [] }
         ensures start { self.new.start ≡ self.old.start }
+        ensures to_come { self.new.to_come ≡ self.old.to_come }
+        ensures fatal { self.new.fatal ≡ self.old.fatal }
         ensures names { self.new.names ≡ self.old.names }
         ensures calls { self.new.calls ≡ self.old.calls + 1 }
         ensures room { self.new.room ≡ self.old.room }
@@ -398,9 +454,14 @@ impl<S: Source, K: Sink> Plant for LinePlant<S, K> {
     }
 
     fn entered(&mut self, entry: &Entry)
-        ensures { self.new ≡ record self.old { asked = self.old.asked ++ asked.Entered entry.now ∷ [] } }
+        ensures asked { self.new ≡ record self.old { wire = self.new.wire; asked = self.old.asked ++ asked.Entered entry.now ∷ [] } }
+        ensures on { says_failed self.old.fatal entry.now ≡ false → self.new.wire ≡ self.old.wire }
+        ensures stopped { says_failed self.old.fatal entry.now ≡ true → WasStopped ⟦<K as Sink>⟧ self.old.wire self.new.wire }
     {
         self.told = self.told.then(&Note::Entered { entry });
+        if says_failed(self.fatal.as_slice(), entry) {
+            self.wire.stop();
+        }
     }
 
     fn lay_faults(&self) -> u64 {

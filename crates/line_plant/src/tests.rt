@@ -77,7 +77,7 @@ fn each_line_is_flushed_before_its_answer_is_awaited(rt: HostRuntime) -> Result<
     });
     let commands = FlushedSink::new(Commands { seen: &seen });
     let names = vec![in alloc; Name::from_bytes(alloc, b"plate")?]?;
-    let mut plant = LinePlant::new(alloc, names, answers, commands);
+    let mut plant = LinePlant::new(alloc, names, Vec::new(alloc), answers, commands);
     plant.lay(alloc, &[0], &[], 2)?;
     assert_eq!(rt; seen.flushes.get(), 1);
     assert_eq!(rt; plant.put(0, 1), Ok(()));

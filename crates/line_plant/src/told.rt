@@ -30,7 +30,7 @@ pub(crate) enum Note<'a> {
     },
 }
 
-/// All that came to a device since it was made, and the sink as it was then.
+/// All that came to a device since it was made, and a stream of it as it was then.
 #[derive(Drop)]
 pub(crate) struct Told<K> {
     of: PhantomData<K>,
@@ -49,9 +49,9 @@ unsafe impl<K: Send> Send for Told<K> {}
 impl<K> Told<K> {
     ghost use Rattle.line_plant.specs.Asking.{asked_by};
 
-    /// Nothing came yet to a device that is spoken to by this sink.
-    pub(crate) fn over(sink: &K) -> Told<K>
-        ensures { (result.asked ≡ []) × (result.opened ≡ sink.now) }
+    /// Nothing came yet to a device with this stream.
+    pub(crate) fn over(stream: &K) -> Told<K>
+        ensures { (result.asked ≡ []) × (result.opened ≡ stream.now) }
     {
         Told { of: PhantomData }
     }

@@ -17,7 +17,7 @@ pub struct Wire<S, K> {
     pub next: u64,
     /// Whether an answer was lost, or the device was given up, so that nothing is asked any longer.
     pub is_broken: bool,
-    /// Whether a line was written in part.
+    /// Whether a write failed, so that a line was written in part.
     pub is_cut: bool,
     /// Whether `stop` was sent.
     pub was_stopped: bool,
@@ -82,7 +82,7 @@ impl<S: Source, K: Sink> Wire<S, K> {
             return;
         }
         self.was_stopped = true;
-        let _ = write_all(&mut self.commands, b"stop\n");
+        self.is_cut = write_all(&mut self.commands, b"stop\n").is_err();
     }
 
     /// Takes what comes of a line that is no answer, up to its line feed or 32 bytes.
