@@ -2,7 +2,7 @@
 _caa_show() {
   COMPREPLY=()
   if [ "$COMP_CWORD" -eq 1 ]; then
-    mapfile -t COMPREPLY < <(compgen -W 'explain table warn graph chart story where page trace rehearse faults playing lines --help --version' -- "${COMP_WORDS[COMP_CWORD]}")
+    mapfile -t COMPREPLY < <(compgen -W 'explain table warn graph chart story where page trace rehearse faults playing interlock lines --help --version' -- "${COMP_WORDS[COMP_CWORD]}")
   elif [ "$COMP_CWORD" -eq 3 ] && [ "${COMP_WORDS[1]}" = warn ]; then
     COMPREPLY=(notes)
   fi

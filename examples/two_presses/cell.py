@@ -140,7 +140,7 @@ class Cell:
 
     def feed_belt(self, _, at, to):
         blank = self.blank_at("feed_belt")
-        if to <= at or not blank:
+        if to < 1 or not blank:
             return
         if self.table_stands() != (AT_BELT, 0):
             raise RuleBroken(DROP, f"the feed belt runs, and the table isn't there for blank {blank.number}")
@@ -148,7 +148,7 @@ class Cell:
 
     def deposit_belt(self, _, at, to):
         blank = self.blank_at("deposit_belt")
-        if to > at and blank:
+        if to == 1 and blank:
             self.lay_blank(blank, "end_of_deposit", "at the end of the deposit belt")
 
     def table_stands(self):

@@ -22,6 +22,7 @@ LOST_BY = {"table": ("table_height", "table_angle"), "arm_1": ("robot_turn",), "
 KINDS = (
     [f"{kind}:{name}" for name in MOTORS for kind in ("once", "jam", "stop")]
     + [f"{kind}:{name}" for name in OTHERS for kind in ("once", "jam")]
+    + [f"stop:{name}" for name in BELTS]
     + ["stuck:table_switch", "stuck:table_eye"]
     + [f"lost:{name}" for name in LOST_BY]
 )
@@ -85,7 +86,7 @@ class Faults:
         kind = self.chance.choices(("once", "jam", "stop"), (8, 1, 1))[0]
         if kind != "once":
             self.dead[name] = REFUSES
-        return STOPS if kind == "stop" and name in MOTORS else REFUSES
+        return STOPS if kind == "stop" and name in MOTORS + BELTS else REFUSES
 
     def is_stuck(self, sensor):
         """Whether a sensor of the table is stuck by now."""

@@ -1,1 +1,2 @@
+pub mod Interlocks
 pub mod Read

@@ -1,6 +1,7 @@
 //! The program `caa_show`: it shows what a script says, and why one is refused.
 #![tactic(auto)]
 
+mod interlocks;
 mod judging;
 mod lines;
 mod misread;
@@ -11,6 +12,7 @@ mod showing;
 mod whereabouts;
 mod words;
 
+use crate::interlocks::{InterlockCall, interlock_asked, show_interlocks};
 use crate::plays::{PlayCall, play_asked, show_plays};
 use crate::showing::{Shown, Status, show};
 use crate::words::{Alone, USAGE, VERSION, View, asked, asked_alone};
@@ -20,6 +22,8 @@ use caa_base::outside::standard::{StdSink, StdSource};
 use caa_base::written::entry::OutOfMemory;
 use caa_base::written::limits::MOST_AUDIT_BYTES;
 use fault_trials::trials::Progress;
+use interlock_views::asking::RulesCall;
+use interlock_views::hunting::HuntProgress;
 use script_views::line_table::line_table;
 use script_views::page::{Page, Piece};
 use std::alloc::Global;
@@ -140,27 +144,60 @@ struct Teller<'a> {
     next: u64,
 }
 
-impl<'a> Progress for Teller<'a> {
-    fn tell(&mut self, done: u32, schedules: u32, entries: u64) {
+impl<'a> Teller<'a> {
+    /// Tells that so many of these are done, where it is time to.
+    fn tell_of(&mut self, counting: Counting, done: u32, all: u32, entries: u64) {
         if entries < self.next {
             return;
         }
         self.next = entries.saturating_add(EACH);
-        if let Ok(line) = progress_line(self.rt.alloc(), done, schedules) {
+        if let Ok(line) = progress_line(self.rt.alloc(), counting, done, all) {
             write_shown(self.rt, &line, false);
         }
     }
 }
 
+impl<'a> Progress for Teller<'a> {
+    fn tell(&mut self, done: u32, schedules: u32, entries: u64) {
+        let counting = Counting {
+            view: "faults: ",
+            what: " schedules\n",
+        };
+        self.tell_of(counting, done, schedules, entries);
+    }
+}
+
+impl<'a> HuntProgress for Teller<'a> {
+    fn tell(&mut self, plays: u32, most: u32, entries: u64) {
+        let counting = Counting {
+            view: "interlock: ",
+            what: " plays\n",
+        };
+        self.tell_of(counting, plays, most, entries);
+    }
+}
+
+/// The view that tells how far it has come, and what it counts.
+#[derive(Clone, Copy)]
+struct Counting {
+    view: &'static str,
+    what: &'static str,
+}
+
 /// A line that tells how far a view of plays has come.
-fn progress_line(alloc: Global, done: u32, schedules: u32) -> Result<Vec<u8>, OutOfMemory> {
+fn progress_line(
+    alloc: Global,
+    counting: Counting,
+    done: u32,
+    all: u32,
+) -> Result<Vec<u8>, OutOfMemory> {
     let mut page = Page::new(alloc, &[]);
     page.say(&[
-        Piece::Text("faults: "),
+        Piece::Text(counting.view),
         Piece::Number(u64::from(done)),
         Piece::Text(" of "),
-        Piece::Number(u64::from(schedules)),
-        Piece::Text(" schedules\n"),
+        Piece::Number(u64::from(all)),
+        Piece::Text(counting.what),
     ])?;
     Ok(page.into_text())
 }
@@ -178,6 +215,35 @@ fn serve_played(rt: &HostRuntime, call: &PlayCall) -> Shown {
     )
 }
 
+/// What becomes of the rules of a file, over a script that was read.
+fn show_rules(rt: &HostRuntime, call: &InterlockCall, bytes: &[u8], rules: &[u8]) -> Shown {
+    let alloc = rt.alloc();
+    let file = call.script.unwrap_or(STANDARD_INPUT).as_bytes();
+    let asked = RulesCall {
+        script: call.script.unwrap_or("-").as_bytes(),
+        file: call.rules.unwrap_or(STANDARD_INPUT).as_bytes(),
+        text: rules,
+        plays: call.plays,
+    };
+    let mut teller = Teller { rt, next: EACH };
+    match show_interlocks(alloc, &asked, file, bytes, &mut teller) {
+        Ok(shown) => shown,
+        Err(_) => told(alloc, Status::OutOfMemory, "", b""),
+    }
+}
+
+/// What a view of interlocks comes to.
+fn serve_interlocks(rt: &HostRuntime, call: &InterlockCall) -> Shown {
+    let bytes = match read_input(rt, call.script) {
+        Ok(bytes) => bytes,
+        Err(error) => return unread(rt.alloc(), call.script.unwrap_or(STANDARD_INPUT), error),
+    };
+    match read_input(rt, call.rules) {
+        Ok(rules) => show_rules(rt, call, &bytes, &rules),
+        Err(error) => unread(rt.alloc(), call.rules.unwrap_or(STANDARD_INPUT), error),
+    }
+}
+
 /// What the words come to, and whether it belongs into the output: why a picture or a graph isn't there doesn't.
 fn serve(rt: &HostRuntime, words: &[String]) -> (Shown, bool) {
     let alloc = rt.alloc();
@@ -186,6 +252,9 @@ fn serve(rt: &HostRuntime, words: &[String]) -> (Shown, bool) {
     }
     if let Some(call) = play_asked(words) {
         return (serve_played(rt, &call), true);
+    }
+    if let Some(call) = interlock_asked(words) {
+        return (serve_interlocks(rt, &call), true);
     }
     match asked(words) {
         None => (told(alloc, Status::Usage, "", USAGE), true),

@@ -61,7 +61,7 @@ pub fn play_asked(words: &[String]) -> Option<PlayCall> {
 }
 
 /// A script that would be played too long.
-fn too_many(alloc: Global, file: &[u8], most: u64) -> Result<Shown, OutOfMemory> {
+pub fn too_many(alloc: Global, file: &[u8], most: u64) -> Result<Shown, OutOfMemory> {
     let mut page = Page::new(alloc, &[]);
     page.say(&[Piece::Word(file)])?;
     if most == 0 {

@@ -72,7 +72,9 @@ fn accepted(alloc: Global, plan: &Plan) -> Result<Vec<u8>, OutOfMemory> {
 }
 
 /// A text that goes with a status.
-pub fn with_status(status: Status, text: Vec<u8>) -> Shown {
+pub fn with_status(status: Status, text: Vec<u8>) -> Shown
+    ensures { result.status ≡ status }
+{
     Shown { status, text }
 }
 
@@ -229,12 +231,12 @@ fn says_nothing(alloc: Global, text: &[u8]) -> Result<Shown, OutOfMemory> {
 }
 
 /// Where the journal begins that stands behind a script, if one stands there.
-fn journal_behind(bytes: &[u8]) -> Option<JournalStart> {
+pub fn journal_behind(bytes: &[u8]) -> Option<JournalStart> {
     Some(find_journal(bytes)).filter(|start| start.offset < bytes.len())
 }
 
 /// The script of an input, without the journal that stands behind it.
-fn script_text(bytes: &[u8], start: Option<JournalStart>) -> &[u8] {
+pub fn script_text(bytes: &[u8], start: Option<JournalStart>) -> &[u8] {
     match start {
         Some(start) => bytes.get(..start.offset).unwrap_or(bytes),
         None => bytes,

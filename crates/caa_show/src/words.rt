@@ -42,7 +42,7 @@ impl View {
 
 /// The usage line.
 pub const USAGE: &[u8] =
-    b"usage: explain [FILE] | table [FILE] | warn [FILE [notes]] | graph [FILE] | chart [FILE [FIRST COUNT]] | story [FILE] | where [FILE [FIRST COUNT]] | page [FILE] | trace [FILE] | rehearse [FILE [COUNT [csv]]] | faults [FILE [COUNT] [pairs] [csv] [off OBJECT ..]] | playing FILE NUMBER [bare] [OBJECT NTH .. [on] | from N] | lines | --help | --version\n";
+    b"usage: explain [FILE] | table [FILE] | warn [FILE [notes]] | graph [FILE] | chart [FILE [FIRST COUNT]] | story [FILE] | where [FILE [FIRST COUNT]] | page [FILE] | trace [FILE] | rehearse [FILE [COUNT [csv]]] | faults [FILE [COUNT] [pairs] [csv] [off OBJECT ..]] | playing FILE NUMBER [bare] [OBJECT NTH .. [on] | from N] | interlock SCRIPT RULES [PLAYS] | lines | --help | --version\n";
 
 /// Its name, its version, and the commit that it was built from: zeros, until `./build_caa` has written twelve digits there.
 pub const VERSION: &[u8] = b"caa_show 1.0, commit 000000000000\n";

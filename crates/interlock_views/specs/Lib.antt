@@ -1,0 +1,4 @@
+pub mod Broken
+pub mod Hunts
+pub mod Told
+pub mod inner
