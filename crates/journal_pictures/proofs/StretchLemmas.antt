@@ -5,9 +5,9 @@ use Rattle.caa_base.specs.declared.written.entry.Entry.{Entry}
 use Rattle.place_plan.specs.Plans.PlanValue.{Plan}
 use Rattle.place_plan.specs.RulesOfJournals.Roles.{is_over}
 use Rattle.place_plan.specs.RulesOfJournals.Rules.{MayFollow}
-use Rattle.journal_states.specs.declared.standing.Standing.TheVariants as standing
-use Rattle.journal_states.specs.declared.standing.Wait.{Wait}
-use Rattle.journal_states.specs.Standings.{IsStanding}
+use Rattle.journal_replay.specs.Moves.{IsMove}
+use Rattle.journal_replay.specs.declared.moves.Move.TheVariants as move
+use Rattle.journal_replay.specs.declared.moves.Wait.{Wait}
 use Rattle.journal_pictures.specs.declared.stretches.Doing.{Doing}
 use Rattle.journal_pictures.specs.declared.stretches.Doing.TheVariants as doing
 use Rattle.journal_pictures.specs.Stretches.{is_wait, HasToWait, IsRightAt}
@@ -19,9 +19,9 @@ unfolding IsRightAt
 right_alike plan entries k t d e same here =
     subst (λ (b : Bool). (b ≡ true) ↔ HasToWait plan (reverse (take k entries)) t) (sym same) here
 
--- who waits by its standing is right to wait
+-- who waits by its move is right to wait
 pub right_wait : (plan : Plan) (entries : List Entry) (k t : ℕ) (w : Wait)
-    → IsStanding plan (reverse (take k entries)) t (standing.Waits w) → IsRightAt plan entries k t (doing.Wait w)
+    → IsMove plan (reverse (take k entries)) t (move.Wait w) → IsRightAt plan entries k t (doing.Wait w)
 unfolding IsRightAt
 right_wait plan entries k t w h = (λ _. (h.0, h.1), λ _. refl)
 

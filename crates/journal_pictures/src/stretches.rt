@@ -9,8 +9,8 @@ ghost use Rattle.journal_pictures.specs.Stretches.{is_wait, IsRightAt, IsRight};
 
 use caa_base::written::entry::{Entry, Kind, OutOfMemory, Participant};
 use caa_base::written::line::push_word;
+use journal_replay::moves::{Move, Wait};
 use journal_states::spots::Phase;
-use journal_states::standing::{Standing, Wait};
 use journal_states::states::States;
 use journal_states::words::{lack_words, push_some_awaited};
 use place_plan::plans::plan::Plan;
@@ -73,12 +73,12 @@ pub(crate) fn doing_of(states: &States, by: Participant) -> Doing
     requires { by < length (plan_in states.now).participants }
     ensures { IsRightAt (plan_in states.now) (journal_in states.now) (taken_in states.now) by result }
 {
-    match states.standing(by) {
-        Standing::Waits(wait) => Doing::Wait(wait),
-        Standing::Over => Doing::Away,
-        Standing::Puts { well, .. } => doing_before(states, by, well.kind),
-        Standing::Makes(entry) => doing_before(states, by, entry.kind),
-        Standing::Works(_) => doing_before(states, by, Kind::Work),
+    match states.move_of(by) {
+        Move::Wait(wait) => Doing::Wait(wait),
+        Move::Over => Doing::Away,
+        Move::Put { well, .. } => doing_before(states, by, well.kind),
+        Move::Make(entry) => doing_before(states, by, entry.kind),
+        Move::Mix(_) => doing_before(states, by, Kind::Work),
     }
 }
 

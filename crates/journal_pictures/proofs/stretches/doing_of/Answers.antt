@@ -5,10 +5,10 @@ use Rattle.journal_pictures.specs.declared.stretches.Doing.TheVariants as doing
 use Rattle.journal_pictures.proofs.StretchLemmas.{right_wait, right_go, right_rest}
 use Rattle.journal_pictures.proofs.stretches.doing_of.Goals as goal
 
-pub returns-in-Waits : goal.returns-in-Waits
-returns-in-Waits c =
+pub returns-in-Wait : goal.returns-in-Wait
+returns-in-Wait c =
     let s = c.args.states.now in
-    right_wait (plan_in s) (journal_in s) (taken_in s) c.args.by c.in-Waits.wait (c.in-Waits.ensures c.requires)
+    right_wait (plan_in s) (journal_in s) (taken_in s) c.args.by c.in-Wait.wait (c.in-Wait.ensures c.requires)
 
 pub returns-in-Over : goal.returns-in-Over
 returns-in-Over c =
@@ -16,25 +16,25 @@ returns-in-Over c =
     let h = c.in-Over.ensures c.requires in
     right_rest (plan_in s) (journal_in s) (taken_in s) c.args.by doing.Away refl h.1
 
-pub returns-in-Puts : goal.returns-in-Puts
-returns-in-Puts c =
+pub returns-in-Put : goal.returns-in-Put
+returns-in-Put c =
     let s = c.args.states.now in
-    let h = c.in-Puts.ensures c.requires in
-    right_go (plan_in s) (journal_in s) (taken_in s) c.args.by c.doing_before.result c.in-Puts.well
+    let h = c.in-Put.ensures c.requires in
+    right_go (plan_in s) (journal_in s) (taken_in s) c.args.by c.doing_before.result c.in-Put.well
     c.doing_before.ensures h.own.0 h.may.0
 
-pub returns-in-Makes : goal.returns-in-Makes
-returns-in-Makes c =
+pub returns-in-Make : goal.returns-in-Make
+returns-in-Make c =
     let s = c.args.states.now in
-    let h = c.in-Makes.ensures c.requires in
-    right_go (plan_in s) (journal_in s) (taken_in s) c.args.by c.doing_before-in-Makes.result c.in-Makes.entry
-    c.doing_before-in-Makes.ensures h.own h.may
+    let h = c.in-Make.ensures c.requires in
+    right_go (plan_in s) (journal_in s) (taken_in s) c.args.by c.doing_before-in-Make.result c.in-Make.entry
+    c.doing_before-in-Make.ensures h.next.own h.next.may
 
-pub returns-in-Works : goal.returns-in-Works
-returns-in-Works c =
+pub returns-in-Mix : goal.returns-in-Mix
+returns-in-Mix c =
     let s = c.args.states.now in
-    let work = c.in-Works.field-0 in
-    let h = c.in-Works.ensures c.requires in
-    right_go (plan_in s) (journal_in s) (taken_in s) c.args.by c.doing_before-in-Works.result
+    let work = c.in-Mix.field-0 in
+    let h = c.in-Mix.ensures c.requires in
+    right_go (plan_in s) (journal_in s) (taken_in s) c.args.by c.doing_before-in-Mix.result
     (work_entry work.place c.args.by work.rounds work.from)
-    c.doing_before-in-Works.ensures h.own h.may
+    c.doing_before-in-Mix.ensures h.next.own h.next.may
