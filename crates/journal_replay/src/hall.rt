@@ -16,16 +16,15 @@ ghost use Rattle.journal_replay.specs.Opening.{is_plant_fault};
 ghost use Rattle.std.proofs.Math.Nat.{le_of_eq};
 ghost use Rattle.std.proofs.Common.{sym};
 ghost use Rattle.journal_replay.specs.IsDue.{DeviceDecides};
-ghost use Rattle.journal_replay.specs.inner.Duty.{MayWorkNow, IsTurn};
+ghost use Rattle.journal_replay.specs.Moves.{MayWorkNow, IsMove};
 
-use crate::answer::Due;
 use crate::audit::all_are_over;
-use crate::duty::{Turn, Work};
 use crate::look_back::LookBack;
+use crate::moves::{Move, Work};
 use crate::past::Past;
 use crate::questions::gathers;
 use crate::records::Records;
-use crate::rule::turn;
+use crate::rule::move_of;
 use caa_base::outside::plant::{Plant, PlantError};
 use caa_base::written::entry::{
     Drill, Entry, Failed, Kind, Object, OutOfMemory, Participant, Place,
@@ -324,7 +323,7 @@ impl<P: Plant, R: Records> Played<P, R> {
     {
         match hint {
             Some(done) if fits(&done, &work) => {
-                let entry = work.entry(by, &done);
+                let entry = work.mixed(by, &done);
                 self.add(entry);
                 Answer::Did(entry)
             }
@@ -356,10 +355,10 @@ impl<P: Plant, R: Records> Played<P, R> {
 
     /// What a participant does in its turn.
     #[inline(always)]
-    fn turn(&self, by: Participant) -> Turn
-        ensures { IsTurn (plan_in self.now) (reverse (journal_in self.now)) by result }
+    fn move_of(&self, by: Participant) -> Move
+        ensures { IsMove (plan_in self.now) (reverse (journal_in self.now)) by result }
     {
-        turn(&self.past(), by)
+        move_of(&self.past(), by)
     }
 }
 
@@ -393,17 +392,15 @@ impl<P: Plant, R: Records> Machine for Played<P, R> {
         ensures count { CountsFault (made_fault result) (P.faults (plant_in self.old)) (P.faults (plant_in self.new)) }
         ensures answer { Answers (plan_in self.old) (journal_in self.old) (journal_in self.new) by hint result }
     {
-        match self.turn(by) {
-            Turn::Mix(work) => self.take_work(by, work, hint),
-            Turn::Act(due) => match due {
-                Due::NotYet => Answer::NotYet,
-                Due::Over => Answer::Over,
-                Due::Now(entry) => {
-                    self.add(entry);
-                    Answer::Did(entry)
-                }
-                Due::Put { well, fault } => Answer::Did(self.ask(well, fault)),
-            },
+        match self.move_of(by) {
+            Move::Mix(work) => self.take_work(by, work, hint),
+            Move::Wait(_) => Answer::NotYet,
+            Move::Over => Answer::Over,
+            Move::Make(entry) => {
+                self.add(entry);
+                Answer::Did(entry)
+            }
+            Move::Put { well, fault } => Answer::Did(self.ask(well, fault)),
         }
     }
 
@@ -413,7 +410,7 @@ impl<P: Plant, R: Records> Machine for Played<P, R> {
             rounds: done.rounds(),
             from: done.from(),
         };
-        let entry = work.entry(by, done);
+        let entry = work.mixed(by, done);
         self.add(entry);
         entry
     }
