@@ -140,8 +140,8 @@ fn tell_value(
 /// Tells which puts the device may have been asked for, and perhaps has done, though no entry says so.
 fn tell_puts(alloc: Global, states: &States, page: &mut Page) -> Result<(), OutOfMemory> {
     for by in 0..states.plan().participants() {
-        if let Move::Put { well, .. } = states.move_of(by) {
-            tell_put(alloc, states.plan(), by, well, page)?;
+        if let Move::Put(entry) = states.move_of(by) {
+            tell_put(alloc, states.plan(), by, entry, page)?;
         }
     }
     Ok(())

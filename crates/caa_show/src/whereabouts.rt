@@ -5,7 +5,7 @@ use crate::lines::Lines;
 use crate::words::Moments;
 use caa_base::written::entry::{Entry, OutOfMemory, Participant};
 use caa_base::written::journal::Journal;
-use journal_replay::moves::{Move, Wait};
+use journal_replay::moves::{Move, Wait, refused};
 use journal_states::states::States;
 use journal_states::words::{lack_words, participant_name, push_awaited};
 use journal_text::looks::seens::Seens;
@@ -100,9 +100,9 @@ pub fn tell_standing(
     match states.move_of(by) {
         Move::Make(entry) => tell_may(alloc, plan, entry, page)?,
         Move::Mix(work) => tell_may(alloc, plan, work.entry(by), page)?,
-        Move::Put { well, fault } => {
-            tell_may(alloc, plan, well, page)?;
-            tell_refused(alloc, plan, fault, page)?;
+        Move::Put(entry) => {
+            tell_may(alloc, plan, entry, page)?;
+            tell_refused(alloc, plan, refused(entry), page)?;
         }
         Move::Wait(wait) => tell_wait(alloc, states, &wait, page)?,
         Move::Over => page.say(&[Piece::Text(" is through with all its plays")])?,

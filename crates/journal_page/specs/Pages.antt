@@ -37,7 +37,7 @@ abbrev pub move_number : Move → ℕ
 move_number move.Over = 0
 move_number (move.Make e) = 1
 move_number (move.Mix work) = 1
-move_number (move.Put well fault) = 2
+move_number (move.Put e) = 2
 move_number (move.Wait wait) = 3 + lack_number wait.lack
 
 -- the line of each entry

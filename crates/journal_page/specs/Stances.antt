@@ -7,6 +7,7 @@ use Rattle.place_plan.specs.RulesOfJournals.Machine.{work_entry}
 use Rattle.place_plan.specs.RulesOfJournals.Rules.{MayFollow}
 use Rattle.place_plan.specs.RulesOfJournals.WellFormed.{IsWellFormed}
 use Rattle.place_plan.specs.RulesOfJournals.Whereabouts.{inside}
+use Rattle.journal_laws.specs.Due.{as_refused}
 use Rattle.journal_replay.specs.Moves.{IsMove}
 use Rattle.journal_replay.specs.declared.moves.Move.{Move}
 use Rattle.journal_replay.specs.declared.moves.Move.TheVariants as move
@@ -16,7 +17,7 @@ use Rattle.journal_page.specs.declared.turns.Turn.{Turn}
 -- the entries that a move lets t make
 abbrev pub entries_in : ℕ → Move → List Entry
 entries_in t (move.Make e) = e ∷ []
-entries_in t (move.Put well fault) = well ∷ fault ∷ []
+entries_in t (move.Put e) = e ∷ as_refused e.kind e ∷ []
 entries_in t (move.Mix work) = work_entry work.place t work.rounds work.from ∷ []
 entries_in t _ = []
 

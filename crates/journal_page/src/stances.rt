@@ -11,7 +11,7 @@ ghost use Rattle.journal_page.specs.Stances.{entries_in, IsStance, ShowsWellForm
 
 use caa_base::written::entry::{Entry, Object, OutOfMemory, Participant, Place};
 use journal_laws::is_well_formed;
-use journal_replay::moves::{Lack, Move, Wait};
+use journal_replay::moves::{Lack, Move, Wait, refused};
 use journal_states::spots::Spot;
 use journal_states::states::States;
 use place_plan::plans::plan::Plan;
@@ -45,9 +45,9 @@ fn entries_in(alloc: Global, by: Participant, next: &Move) -> Result<Vec<Entry>,
     match next {
         Move::Make(entry) => entries.push(*entry)?,
         Move::Mix(work) => entries.push(work.entry(by))?,
-        Move::Put { well, fault } => {
-            entries.push(*well)?;
-            entries.push(*fault)?;
+        Move::Put(entry) => {
+            entries.push(*entry)?;
+            entries.push(refused(*entry))?;
         }
         Move::Wait(_) | Move::Over => {}
     }

@@ -39,7 +39,7 @@ fn move_number(next: &Move) -> u64
         Move::Over => 0,
         Move::Make(_) => 1,
         Move::Mix(_) => 1,
-        Move::Put { well: _, fault: _ } => 2,
+        Move::Put(_) => 2,
         Move::Wait(wait) => 3 + lack_number(wait.lack),
     }
 }

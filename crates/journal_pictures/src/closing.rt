@@ -67,7 +67,7 @@ fn push_standing(text: &mut Vec<u8>, states: &States, by: Participant) -> Result
     }
     match next {
         Move::Make(entry) => push_may(text, states.plan(), &entry)?,
-        Move::Put { well, .. } => push_may(text, states.plan(), &well)?,
+        Move::Put(entry) => push_may(text, states.plan(), &entry)?,
         Move::Mix(work) => push_may(text, states.plan(), &work.entry(by))?,
         Move::Wait(wait) => {
             push_word(text, b"waits for")?;

@@ -77,7 +77,7 @@ fn doing_inside(states: &States, by: Participant) -> Doing
     match states.move_of(by) {
         Move::Wait(wait) => Doing::Wait(wait),
         Move::Over => Doing::Turn,
-        Move::Put { well, .. } => doing_before(states, by, well.kind),
+        Move::Put(entry) => doing_before(states, by, entry.kind),
         Move::Make(entry) => doing_before(states, by, entry.kind),
         Move::Mix(_) => doing_before(states, by, Kind::Work),
     }

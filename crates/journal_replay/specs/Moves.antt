@@ -11,6 +11,7 @@ use Rattle.place_plan.specs.RulesOfJournals.Objects.{holder_of, objects_are_read
 use Rattle.place_plan.specs.RulesOfJournals.Roles.{register, all_have_given, all_have_aborted, is_over}
 use Rattle.place_plan.specs.RulesOfJournals.Journals.{HasNoEntry}
 use Rattle.place_plan.specs.RulesOfJournals.Machine.{work_entry}
+use Rattle.journal_laws.specs.Due.{as_refused}
 use Rattle.journal_replay.specs.IsDue.{IsTheEntry, DeviceDecides}
 use Rattle.journal_replay.specs.declared.moves.Work.{Work}
 use Rattle.journal_replay.specs.declared.moves.Lack.{Lack}
@@ -48,7 +49,7 @@ pub record MayMakeNow (plan : Plan) (past : List Entry) (t : ℕ) (e : Entry) : 
 -- what the rules let t do after this past: it waits just where it has no entry, and isn't over
 abbrev pub IsMove : Plan → List Entry → ℕ → Move → Type 0
 IsMove plan past t (move.Make e) = MayMakeNow plan past t e
-IsMove plan past t (move.Put well fault) = DeviceDecides plan past t well fault
+IsMove plan past t (move.Put e) = DeviceDecides plan past t e (as_refused e.kind e)
 IsMove plan past t (move.Mix work) = MayWorkNow plan past t work
 IsMove plan past t (move.Wait wait) =
     HasNoEntry plan past t × (is_over plan past t ≡ false) × IsWait plan past t wait.place wait.lack

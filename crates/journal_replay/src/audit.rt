@@ -5,7 +5,7 @@ ghost use Rattle.journal_replay.specs.PastParts.{plan_of, entries_of};
 ghost use Rattle.journal_replay.specs.Audited.{Audited};
 
 use crate::look_back::LookBack;
-use crate::moves::Move;
+use crate::moves::{Move, refused};
 use crate::past::Past;
 use crate::questions::is_over;
 use crate::records::Records;
@@ -42,7 +42,7 @@ pub fn may_follow<R: Records>(past: &Past<'_, R>, entry: &Entry) -> bool
     }
     match move_of(past, entry.by) {
         Move::Make(due) => is_same(entry, &due),
-        Move::Put { well, fault } => is_same(entry, &well) || is_same(entry, &fault),
+        Move::Put(well) => is_same(entry, &well) || is_same(entry, &refused(well)),
         Move::Mix(work) => is_same(entry, &work.entry(entry.by)),
         Move::Wait(_) | Move::Over => false,
     }

@@ -6,6 +6,7 @@
 
 ghost use Rattle.std.specs.Prelude.{◌≡◌};
 ghost use Rattle.place_plan.specs.RulesOfJournals.Machine.{work_entry};
+ghost use Rattle.journal_laws.specs.Due.{as_refused};
 
 use caa_base::written::entry::{Entry, Kind, Object, Participant, Place};
 use caa_base::written::work::WorkDone;
@@ -73,8 +74,8 @@ pub struct Wait {
 pub enum Move {
     /// It may make this entry, and no other.
     Make(Entry),
-    /// It may put a value: it makes `well` where the device takes the put, and `fault` where it refuses.
-    Put { well: Entry, fault: Entry },
+    /// It may put a value: it makes this entry where the device takes the put, and `refused` of it where the device refuses.
+    Put(Entry),
     /// It may make the entry of this work, and no other. Nothing was mixed yet.
     Mix(Work),
     /// It may make no entry until something comes.
@@ -83,15 +84,16 @@ pub enum Move {
     Over,
 }
 
-/// What the rules give a participant to do, as if the device took each put.
-#[derive(Clone, Copy)]
-pub(crate) enum Deed {
-    /// It makes this entry.
-    Make(Entry),
-    /// It does this work, and makes the entry of that.
-    Mix(Work),
-    /// It has no entry until something comes.
-    Wait(Wait),
-    /// It is through with all its plays.
-    Over,
+/// The entry of a put, where the device refuses it. An entry that puts nothing is itself.
+pub fn refused(put: Entry) -> Entry
+    ensures { result ≡ as_refused put.kind put }
+{
+    match put.kind {
+        Kind::Write => Entry {
+            kind: Kind::PutFault,
+            ..put
+        },
+        Kind::Restore => Entry { mark: 1, ..put },
+        _ => put,
+    }
 }

@@ -10,8 +10,8 @@ ghost use Rattle.place_plan.specs.RulesOfJournals.Raising.{has_handled, exceptio
 ghost use Rattle.place_plan.specs.RulesOfJournals.Objects.{value_of, next_restore};
 ghost use Rattle.place_plan.specs.RulesOfJournals.Roles.{register, program_of, next_step, next_play, raise_of, all_have_given, signals};
 ghost use Rattle.place_plan.specs.RulesOfJournals.Rules.{clamped, abort_of, undone_mark};
-ghost use Rattle.place_plan.specs.RulesOfJournals.Journals.{IsLegal, is_put};
-ghost use Rattle.journal_laws.specs.Due.{says, plainly, marked, naming, verdict_entry, least_of, due_arrival, due_waiting, due_restore, due_doomed, due_end, due_agreed, due_held, due_step, due_forward, due_handler, due_resolved, due_halted, due_hot, due_calm, due_inside, due_of, as_refused};
+ghost use Rattle.place_plan.specs.RulesOfJournals.Journals.{IsLegal};
+ghost use Rattle.journal_laws.specs.Due.{says, plainly, marked, naming, verdict_entry, least_of, due_arrival, due_waiting, due_restore, due_doomed, due_end, due_agreed, due_held, due_step, due_forward, due_handler, due_resolved, due_halted, due_hot, due_calm, due_inside, due_of};
 ghost use Rattle.journal_replay.specs.PastParts.{plan_of, entries_of};
 ghost use Rattle.journal_replay.specs.IsDue.{IsDue};
 ghost use Rattle.journal_replay.specs.Moves.{IsMove};
@@ -20,7 +20,7 @@ ghost use Rattle.journal_replay.specs.inner.Deciding.{entry_in, waits_for, enter
 use crate::answer::Due;
 use crate::look_back::LookBack;
 use crate::look_back::roles::{meets, raise_of};
-use crate::moves::{Deed, Lack, Move, Wait, Work};
+use crate::moves::{Lack, Move, Wait, Work, refused};
 use crate::past::Past;
 use crate::questions::{
     all_are_halted, all_are_inside, all_have_aborted, all_have_given, exception_carried,
@@ -97,27 +97,27 @@ fn verdict_entry(place: Place, by: Participant, verdict: Verdict) -> Entry
 
 /// The wait of a participant in the place where this is lacking.
 #[inline(always)]
-fn lacking(place: Place, lack: Lack) -> Deed
+fn lacking(place: Place, lack: Lack) -> Move
     ensures { result ≡ waits_for place lack }
 {
-    Deed::Wait(Wait { place, lack })
+    Move::Wait(Wait { place, lack })
 }
 
 // ---- a place that waits, or is undone
 
 /// What a participant does in a place that waits.
 #[inline(never)]
-fn due_waiting<R: Records>(past: &Past<'_, R>, place: Place, by: Participant) -> Deed
+fn due_waiting<R: Records>(past: &Past<'_, R>, place: Place, by: Participant) -> Move
     requires here { inside (plan_of past.now) (entries_of past.now) by ≡ Some place }
     ensures entry { entry_in by result ≡ due_waiting (plan_of past.now) (entries_of past.now) place by }
     ensures right { IsRight (plan_of past.now) (entries_of past.now) by result }
 {
     if R::is_doomed(past, place) {
-        Deed::Make(plainly(Kind::Withdraw, place, by))
+        Move::Make(plainly(Kind::Withdraw, place, by))
     } else if !all_are_inside(past, place) {
         lacking(place, Lack::Roles)
     } else if objects_are_ready(past, place) {
-        Deed::Make(plainly(Kind::Start, place, by))
+        Move::Make(plainly(Kind::Start, place, by))
     } else {
         lacking(place, Lack::Objects)
     }
@@ -142,7 +142,7 @@ fn undone_mark<R: Records>(past: &Past<'_, R>, place: Place) -> u32
 
 /// The restore that is next in a place that is undone, or its End.
 #[inline(never)]
-fn due_restore<R: Records>(past: &Past<'_, R>, place: Place, by: Participant) -> Deed
+fn due_restore<R: Records>(past: &Past<'_, R>, place: Place, by: Participant) -> Move
     requires undoing { is_undoing (entries_of past.now) place ≡ true }
     requires lasts { has_ended (entries_of past.now) place ≡ false }
     ensures entry { entry_in by result ≡ due_restore (plan_of past.now) (entries_of past.now) place by (next_restore (plan_of past.now) (entries_of past.now) place) }
@@ -152,9 +152,9 @@ fn due_restore<R: Records>(past: &Past<'_, R>, place: Place, by: Participant) ->
     match R::next_restore(past, place) {
         Some(object) => {
             let value = R::value_at_start(past, place, object);
-            Deed::Make(says(Kind::Restore, place, by, object, value))
+            Move::Put(says(Kind::Restore, place, by, object, value))
         }
-        None => Deed::Make(marked(Kind::End, place, by, undone_mark(past, place), 0)),
+        None => Move::Make(marked(Kind::End, place, by, undone_mark(past, place), 0)),
     }
 }
 
@@ -195,19 +195,19 @@ fn exception_named<R: Records>(
 
 /// What a participant does in a doomed place.
 #[inline(never)]
-fn due_doomed<R: Records>(past: &Past<'_, R>, place: Place, by: Participant) -> Deed
+fn due_doomed<R: Records>(past: &Past<'_, R>, place: Place, by: Participant) -> Move
     requires here { inside (plan_of past.now) (entries_of past.now) by ≡ Some place }
     ensures entry { entry_in by result ≡ due_doomed (plan_of past.now) (entries_of past.now) place by }
     ensures right { IsRight (plan_of past.now) (entries_of past.now) by result }
 {
     if R::has_aborted(past, place, by) {
         if all_have_aborted(past, place) {
-            Deed::Make(plainly(Kind::Undo, place, by))
+            Move::Make(plainly(Kind::Undo, place, by))
         } else {
             lacking(place, Lack::GiveUps)
         }
     } else if all_are_inside(past, place) {
-        Deed::Make(naming(Kind::Abort, place, by, exception_named(past, place, by)))
+        Move::Make(naming(Kind::Abort, place, by, exception_named(past, place, by)))
     } else {
         lacking(place, Lack::Roles)
     }
@@ -227,7 +227,7 @@ fn due_end<R: Records>(past: &Past<'_, R>, place: Place, by: Participant) -> Ent
 
 /// What a participant does that has given its verdict; `raised` says whether something was raised in the place.
 #[inline(never)]
-fn due_agreed<R: Records>(past: &Past<'_, R>, place: Place, by: Participant, raised: bool) -> Deed
+fn due_agreed<R: Records>(past: &Past<'_, R>, place: Place, by: Participant, raised: bool) -> Move
     requires here { inside (plan_of past.now) (entries_of past.now) by ≡ Some place }
     requires raised { raised ≡ is_raised (plan_of past.now) (entries_of past.now) place }
     ensures entry { entry_in by result ≡ due_agreed (plan_of past.now) (entries_of past.now) place by }
@@ -236,9 +236,9 @@ fn due_agreed<R: Records>(past: &Past<'_, R>, place: Place, by: Participant, rai
     if !all_have_given(past, place, raised) {
         lacking(place, Lack::Verdicts)
     } else if R::wants_undo(past, place) {
-        Deed::Make(plainly(Kind::Undo, place, by))
+        Move::Make(plainly(Kind::Undo, place, by))
     } else {
-        Deed::Make(due_end(past, place, by))
+        Move::Make(due_end(past, place, by))
     }
 }
 
@@ -246,7 +246,7 @@ fn due_agreed<R: Records>(past: &Past<'_, R>, place: Place, by: Participant, rai
 
 /// What a participant does that reads an object next.
 #[inline(always)]
-fn due_read<R: Records>(past: &Past<'_, R>, place: Place, by: Participant, object: Object) -> Deed
+fn due_read<R: Records>(past: &Past<'_, R>, place: Place, by: Participant, object: Object) -> Move
     requires here { inside (plan_of past.now) (entries_of past.now) by ≡ Some place }
     requires known { object < length (plan_of past.now).objects }
     ensures entry { entry_in by result ≡ due_held (plan_of past.now) (entries_of past.now) place object (says kind.Read place by object (value_of (plan_of past.now) (entries_of past.now) object)) }
@@ -254,7 +254,7 @@ fn due_read<R: Records>(past: &Past<'_, R>, place: Place, by: Participant, objec
 {
     if holds(past, place, object) {
         let value = R::value_at(past, object);
-        Deed::Make(says(Kind::Read, place, by, object, value))
+        Move::Make(says(Kind::Read, place, by, object, value))
     } else {
         lacking(place, Lack::Object(object))
     }
@@ -268,14 +268,14 @@ fn due_write<R: Records>(
     by: Participant,
     object: Object,
     value: i64,
-) -> Deed
+) -> Move
     requires here { inside (plan_of past.now) (entries_of past.now) by ≡ Some place }
     requires known { object < length (plan_of past.now).objects }
     ensures entry { entry_in by result ≡ due_held (plan_of past.now) (entries_of past.now) place object (says kind.Write place by object value) }
     ensures right { IsRight (plan_of past.now) (entries_of past.now) by result }
 {
     if holds(past, place, object) {
-        Deed::Make(says(Kind::Write, place, by, object, value))
+        Move::Put(says(Kind::Write, place, by, object, value))
     } else {
         lacking(place, Lack::Object(object))
     }
@@ -312,7 +312,7 @@ fn due_step<R: Records>(
     by: Participant,
     step: Option<Step>,
     from: i64,
-) -> Deed
+) -> Move
     requires here { inside (plan_of past.now) (entries_of past.now) by ≡ Some place }
     requires step { step ≡ next_step (plan_of past.now) (entries_of past.now) place by }
     requires start { from ≡ register (plan_of past.now) (entries_of past.now) place by }
@@ -324,19 +324,19 @@ fn due_step<R: Records>(
     past.plan.is_closed();
     is_well_formed(past.plan);
     match step {
-        None => Deed::Make(final_verdict(past, place, by)),
+        None => Move::Make(final_verdict(past, place, by)),
         Some(Step::Read(object)) => due_read(past, place, by, object),
         Some(Step::Put(object, value)) => due_write(past, place, by, object, value),
         Some(Step::Add(object, number)) => {
             let value = clamped(from, number);
             due_write(past, place, by, object, value)
         }
-        Some(Step::Work(rounds)) => Deed::Mix(Work {
+        Some(Step::Work(rounds)) => Move::Mix(Work {
             place,
             rounds,
             from,
         }),
-        Some(Step::Check { .. }) => Deed::Make(plainly(Kind::Check, place, by)),
+        Some(Step::Check { .. }) => Move::Make(plainly(Kind::Check, place, by)),
         Some(Step::Raise(_)) | Some(Step::Enter(_)) => unreachable!(),
     }
 }
@@ -360,7 +360,7 @@ fn due_forward<R: Records>(
     by: Participant,
     step: Option<Step>,
     from: i64,
-) -> Deed
+) -> Move
     requires here { inside (plan_of past.now) (entries_of past.now) by ≡ Some place }
     requires calm { is_calm (plan_of past.now) (entries_of past.now) place ≡ true }
     requires step { step ≡ next_step (plan_of past.now) (entries_of past.now) place by }
@@ -372,7 +372,7 @@ fn due_forward<R: Records>(
     match step {
         Some(Step::Enter(nest)) => {
             let inner = entered(past, place, by, nest);
-            Deed::Make(plainly(Kind::Arrive, inner, by))
+            Move::Make(plainly(Kind::Arrive, inner, by))
         }
         _ => due_step(past, place, by, step, from),
     }
@@ -380,7 +380,7 @@ fn due_forward<R: Records>(
 
 /// What a participant does in a calm place.
 #[inline(always)]
-fn due_calm<R: Records>(past: &Past<'_, R>, place: Place, by: Participant) -> Deed
+fn due_calm<R: Records>(past: &Past<'_, R>, place: Place, by: Participant) -> Move
     requires here { inside (plan_of past.now) (entries_of past.now) by ≡ Some place }
     requires calm { is_calm (plan_of past.now) (entries_of past.now) place ≡ true }
     requires unraised { is_raised (plan_of past.now) (entries_of past.now) place ≡ false }
@@ -392,7 +392,7 @@ fn due_calm<R: Records>(past: &Past<'_, R>, place: Place, by: Participant) -> De
     }
     let (step, from) = step_and_register(past, place, by);
     match raise_of(step, from) {
-        Some(exception) => Deed::Make(marked(Kind::Raise, place, by, 0, exception)),
+        Some(exception) => Move::Make(marked(Kind::Raise, place, by, 0, exception)),
         None => due_forward(past, place, by, step, from),
     }
 }
@@ -401,7 +401,7 @@ fn due_calm<R: Records>(past: &Past<'_, R>, place: Place, by: Participant) -> De
 
 /// What a participant does in its handler, which enters nowhere.
 #[inline(never)]
-fn due_handler<R: Records>(past: &Past<'_, R>, place: Place, by: Participant) -> Deed
+fn due_handler<R: Records>(past: &Past<'_, R>, place: Place, by: Participant) -> Move
     requires here { inside (plan_of past.now) (entries_of past.now) by ≡ Some place }
     requires handled { has_handled (entries_of past.now) place by ≡ true }
     ensures entry { entry_in by result ≡ due_handler (plan_of past.now) (entries_of past.now) place by }
@@ -410,7 +410,7 @@ fn due_handler<R: Records>(past: &Past<'_, R>, place: Place, by: Participant) ->
     past.plan.is_closed();
     let (step, from) = step_and_register(past, place, by);
     if R::was_refused_in_handler(past, place, by) || raise_of(step, from).is_some() {
-        Deed::Make(verdict_entry(place, by, Verdict::Undo))
+        Move::Make(verdict_entry(place, by, Verdict::Undo))
     } else {
         due_step(past, place, by, step, from)
     }
@@ -432,7 +432,7 @@ fn due_resolved<R: Records>(
     place: Place,
     by: Participant,
     exception: Exception,
-) -> Deed
+) -> Move
     requires here { inside (plan_of past.now) (entries_of past.now) by ≡ Some place }
     requires hot { is_raised (plan_of past.now) (entries_of past.now) place ≡ true }
     ensures entry { entry_in by result ≡ due_resolved (plan_of past.now) (entries_of past.now) place by exception }
@@ -443,9 +443,9 @@ fn due_resolved<R: Records>(
     } else if has_handled(past, place, by) {
         due_handler(past, place, by)
     } else if has_handler(past.plan, place, by, exception) {
-        Deed::Make(marked(Kind::Handle, place, by, 0, exception))
+        Move::Make(marked(Kind::Handle, place, by, 0, exception))
     } else {
-        Deed::Make(verdict_entry(place, by, Verdict::Undo))
+        Move::Make(verdict_entry(place, by, Verdict::Undo))
     }
 }
 
@@ -459,7 +459,7 @@ fn least_cover<R: Records>(past: &Past<'_, R>, place: Place) -> Exception
 }
 
 /// What a halted participant does while its place isn't resolved yet.
-fn due_unresolved<R: Records>(past: &Past<'_, R>, place: Place, by: Participant) -> Deed
+fn due_unresolved<R: Records>(past: &Past<'_, R>, place: Place, by: Participant) -> Move
     requires here { inside (plan_of past.now) (entries_of past.now) by ≡ Some place }
     requires hot { is_raised (plan_of past.now) (entries_of past.now) place ≡ true }
     ensures entry { entry_in by result ≡ due_halted (plan_of past.now) (entries_of past.now) place by None }
@@ -467,14 +467,14 @@ fn due_unresolved<R: Records>(past: &Past<'_, R>, place: Place, by: Participant)
 {
     if all_are_halted(past, place) {
         let exception = least_cover(past, place);
-        Deed::Make(marked(Kind::Resolve, place, by, 0, exception))
+        Move::Make(marked(Kind::Resolve, place, by, 0, exception))
     } else {
         lacking(place, Lack::Halts)
     }
 }
 
 /// What a participant does that is halted.
-fn due_halted<R: Records>(past: &Past<'_, R>, place: Place, by: Participant) -> Deed
+fn due_halted<R: Records>(past: &Past<'_, R>, place: Place, by: Participant) -> Move
     requires here { inside (plan_of past.now) (entries_of past.now) by ≡ Some place }
     requires hot { is_raised (plan_of past.now) (entries_of past.now) place ≡ true }
     ensures entry { entry_in by result ≡ due_halted (plan_of past.now) (entries_of past.now) place by (exception_resolved (entries_of past.now) place) }
@@ -488,7 +488,7 @@ fn due_halted<R: Records>(past: &Past<'_, R>, place: Place, by: Participant) -> 
 
 /// What a participant does in a hot place.
 #[inline(never)]
-fn due_hot<R: Records>(past: &Past<'_, R>, place: Place, by: Participant) -> Deed
+fn due_hot<R: Records>(past: &Past<'_, R>, place: Place, by: Participant) -> Move
     requires here { inside (plan_of past.now) (entries_of past.now) by ≡ Some place }
     requires hot { is_raised (plan_of past.now) (entries_of past.now) place ≡ true }
     ensures entry { entry_in by result ≡ due_hot (plan_of past.now) (entries_of past.now) place by }
@@ -499,8 +499,8 @@ fn due_hot<R: Records>(past: &Past<'_, R>, place: Place, by: Participant) -> Dee
     }
     let (step, from) = step_and_register(past, place, by);
     match raise_of(step, from) {
-        Some(exception) => Deed::Make(marked(Kind::Raise, place, by, 0, exception)),
-        None => Deed::Make(plainly(Kind::Inform, place, by)),
+        Some(exception) => Move::Make(marked(Kind::Raise, place, by, 0, exception)),
+        None => Move::Make(plainly(Kind::Inform, place, by)),
     }
 }
 
@@ -508,7 +508,7 @@ fn due_hot<R: Records>(past: &Past<'_, R>, place: Place, by: Participant) -> Dee
 
 /// What a participant does in the place that it is in.
 #[inline(always)]
-fn due_inside<R: Records>(past: &Past<'_, R>, place: Place, by: Participant) -> Deed
+fn due_inside<R: Records>(past: &Past<'_, R>, place: Place, by: Participant) -> Move
     requires here { inside (plan_of past.now) (entries_of past.now) by ≡ Some place }
     ensures entry { entry_in by result ≡ due_inside (plan_of past.now) (entries_of past.now) place by }
     ensures right { IsRight (plan_of past.now) (entries_of past.now) by result }
@@ -516,7 +516,7 @@ fn due_inside<R: Records>(past: &Past<'_, R>, place: Place, by: Participant) -> 
     let course = R::course_of(past, place);
     if course.has_ended {
         let exception = exception_carried(past, place, by);
-        Deed::Make(naming(Kind::Leave, place, by, exception))
+        Move::Make(naming(Kind::Leave, place, by, exception))
     } else if !course.has_started {
         due_waiting(past, place, by)
     } else if course.is_undoing {
@@ -532,48 +532,27 @@ fn due_inside<R: Records>(past: &Past<'_, R>, place: Place, by: Participant) -> 
 
 /// What a participant does that is in no place: it arrives in its next play, or is over.
 #[inline(always)]
-fn due_outside<R: Records>(past: &Past<'_, R>, by: Participant) -> Deed
+fn due_outside<R: Records>(past: &Past<'_, R>, by: Participant) -> Move
     requires out { inside (plan_of past.now) (entries_of past.now) by ≡ None }
     ensures entry { entry_in by result ≡ due_arrival by (next_play (plan_of past.now) (entries_of past.now) by) }
     ensures right { IsRight (plan_of past.now) (entries_of past.now) by result }
 {
     past.plan.is_closed();
     match R::next_play(past, by) {
-        Some(play) => Deed::Make(plainly(Kind::Arrive, play, by)),
-        None => Deed::Over,
+        Some(play) => Move::Make(plainly(Kind::Arrive, play, by)),
+        None => Move::Over,
     }
 }
 
 /// What a participant does as if the device took each put.
 #[inline(always)]
-fn deed_of<R: Records>(past: &Past<'_, R>, by: Participant) -> Deed
+fn move_due<R: Records>(past: &Past<'_, R>, by: Participant) -> Move
     ensures entry { entry_in by result ≡ due_of (plan_of past.now) (entries_of past.now) by }
     ensures right { IsRight (plan_of past.now) (entries_of past.now) by result }
 {
     match R::inside(past, by) {
         Some(place) => due_inside(past, place, by),
         None => due_outside(past, by),
-    }
-}
-
-/// Whether the device decides between this entry and its refusal.
-fn asks_device(entry: &Entry) -> bool
-    ensures { result ≡ is_put entry.now }
-{
-    entry.kind == Kind::Write || (entry.kind == Kind::Restore && entry.mark == 0)
-}
-
-/// The entry, where the device refuses what it asks.
-fn refused(entry: Entry) -> Entry
-    ensures { result ≡ as_refused entry.kind entry }
-{
-    match entry.kind {
-        Kind::Write => Entry {
-            kind: Kind::PutFault,
-            ..entry
-        },
-        Kind::Restore => Entry { mark: 1, ..entry },
-        _ => entry,
     }
 }
 
@@ -584,19 +563,7 @@ pub fn move_of<R: Records>(past: &Past<'_, R>, by: Participant) -> Move
 {
     due_is_right(past.plan);
     past.plan.is_closed();
-    match deed_of(past, by) {
-        Deed::Make(entry) => if asks_device(&entry) {
-            Move::Put {
-                well: entry,
-                fault: refused(entry),
-            }
-        } else {
-            Move::Make(entry)
-        },
-        Deed::Mix(work) => Move::Mix(work),
-        Deed::Wait(wait) => Move::Wait(wait),
-        Deed::Over => Move::Over,
-    }
+    move_due(past, by)
 }
 
 /// What the rules let a participant do after a legal journal. It takes no memory.
@@ -612,7 +579,10 @@ pub fn due(plan: &Plan, journal: &Journal, by: Participant) -> Due
     };
     match move_of(&past, by) {
         Move::Make(entry) => Due::Now(entry),
-        Move::Put { well, fault } => Due::Put { well, fault },
+        Move::Put(well) => Due::Put {
+            well,
+            fault: refused(well),
+        },
         Move::Mix(work) => Due::Now(work.entry(by)),
         Move::Wait(_) => Due::NotYet,
         Move::Over => Due::Over,

@@ -20,7 +20,7 @@ pub returns-in-Put-clause-waits : goal.returns-in-Put-clause-waits
 returns-in-Put-clause-waits c =
     let s = c.args.states.now in
     let h = c.in-Put.ensures c.requires in
-    may_go (plan_in s) (past_in s) c.args.by c.doing_before.result c.in-Put.well
+    may_go (plan_in s) (past_in s) c.args.by c.doing_before.result c.in-Put.entry
     c.doing_before.ensures.goes h.own.0 h.may.0
 
 pub returns-in-Make-clause-waits : goal.returns-in-Make-clause-waits
