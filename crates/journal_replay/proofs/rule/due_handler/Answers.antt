@@ -1,5 +1,4 @@
-use Rattle.std.proofs.Common.{◌≡◌, ◌∙◌, false, reverse, sym, ap}
-use Rattle.place_plan.specs.RulesOfJournals.Roles.{next_step}
+use Rattle.std.proofs.Common.{◌∙◌, reverse, ap}
 use Rattle.journal_laws.proofs.PlayablePlan.{is_playable}
 use Rattle.journal_replay.specs.inner.Deciding.{enters}
 use Rattle.journal_replay.proofs.Entering.{handler_stays}
