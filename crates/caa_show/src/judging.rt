@@ -12,7 +12,7 @@ use action_script::forms::script::Script;
 use caa_base::written::entry::{Entry, Object, OutOfMemory, Participant};
 use caa_base::written::journal::Journal;
 use caa_base::written::line::push_value;
-use journal_states::standing::Standing;
+use journal_replay::moves::Move;
 use journal_states::states::States;
 use journal_states::words::participant_name;
 use journal_text::looks::right::first_wrong;
@@ -140,8 +140,8 @@ fn tell_value(
 /// Tells which puts the device may have been asked for, and perhaps has done, though no entry says so.
 fn tell_puts(alloc: Global, states: &States, page: &mut Page) -> Result<(), OutOfMemory> {
     for by in 0..states.plan().participants() {
-        if let Standing::Puts { well, .. } = states.standing(by) {
-            tell_put(alloc, states.plan(), by, well, page)?;
+        if let Move::Put(entry) = states.move_of(by) {
+            tell_put(alloc, states.plan(), by, entry, page)?;
         }
     }
     Ok(())

@@ -5,7 +5,7 @@ use crate::lines::Lines;
 use crate::words::Moments;
 use caa_base::written::entry::{Entry, OutOfMemory, Participant};
 use caa_base::written::journal::Journal;
-use journal_states::standing::{Standing, Wait};
+use journal_replay::moves::{Move, Wait, refused};
 use journal_states::states::States;
 use journal_states::words::{lack_words, participant_name, push_awaited};
 use journal_text::looks::seens::Seens;
@@ -97,15 +97,15 @@ pub fn tell_standing(
 ) -> Result<(), OutOfMemory> {
     let plan = states.plan();
     tell_spot(states, lines, by, page)?;
-    match states.standing(by) {
-        Standing::Makes(entry) => tell_may(alloc, plan, entry, page)?,
-        Standing::Works(work) => tell_may(alloc, plan, work.entry(by), page)?,
-        Standing::Puts { well, fault } => {
-            tell_may(alloc, plan, well, page)?;
-            tell_refused(alloc, plan, fault, page)?;
+    match states.move_of(by) {
+        Move::Make(entry) => tell_may(alloc, plan, entry, page)?,
+        Move::Mix(work) => tell_may(alloc, plan, work.entry(by), page)?,
+        Move::Put(entry) => {
+            tell_may(alloc, plan, entry, page)?;
+            tell_refused(alloc, plan, refused(entry), page)?;
         }
-        Standing::Waits(wait) => tell_wait(alloc, states, &wait, page)?,
-        Standing::Over => page.say(&[Piece::Text(" is through with all its plays")])?,
+        Move::Wait(wait) => tell_wait(alloc, states, &wait, page)?,
+        Move::Over => page.say(&[Piece::Text(" is through with all its plays")])?,
     }
     page.say(&[Piece::Text("\n")])
 }

@@ -1,32 +1,18 @@
 //! Whether a journal refuses just one put of another.
 
 ghost use Rattle.std.specs.Prelude.{◌≡◌, ◌≤◌, ◌↔◌, true, IsTrue, length, take, slice_get};
-ghost use Rattle.journal_laws.specs.Due.{as_refused};
 ghost use Rattle.place_plan.specs.RulesOfJournals.Journals.{is_put};
 ghost use Rattle.fault_trials.specs.Puts.{RefusedAt};
 
 use crate::puts::Put;
-use caa_base::written::entry::{Entry, Kind};
+use caa_base::written::entry::Entry;
+use journal_replay::moves::refused;
 
 /// Whether the entries say the same.
 fn is_same(entry: &Entry, other: &Entry) -> bool
     ensures { IsTrue result ↔ (entry.now ≡ other.now) }
 {
     *entry == *other
-}
-
-/// The entry of a put that the device took, where the device refuses it.
-fn refused(entry: Entry) -> Entry
-    ensures { result ≡ as_refused entry.kind entry }
-{
-    match entry.kind {
-        Kind::Write => Entry {
-            kind: Kind::PutFault,
-            ..entry
-        },
-        Kind::Restore => Entry { mark: 1, ..entry },
-        _ => entry,
-    }
 }
 
 /// Whether two journals have the same first entries, so many.

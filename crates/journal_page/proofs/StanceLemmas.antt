@@ -9,9 +9,10 @@ use Rattle.place_plan.specs.RulesOfJournals.Machine.{work_entry}
 use Rattle.place_plan.specs.RulesOfJournals.Rules.{MayFollow}
 use Rattle.place_plan.specs.RulesOfJournals.WellFormed.{IsWellFormed, AllWellFormed}
 use Rattle.journal_laws.specs.Laws.{Holds}
-use Rattle.journal_states.specs.Standings.{IsStanding}
-use Rattle.journal_states.specs.declared.standing.Standing.{Standing}
-use Rattle.journal_states.specs.declared.standing.Standing.TheVariants as standing
+use Rattle.journal_laws.specs.Due.{as_refused}
+use Rattle.journal_replay.specs.Moves.{IsMove}
+use Rattle.journal_replay.specs.declared.moves.Move.{Move}
+use Rattle.journal_replay.specs.declared.moves.Move.TheVariants as move
 use Rattle.journal_page.specs.Stances.{entries_in}
 
 -- an entry that may come is well formed
@@ -19,16 +20,17 @@ may_well : (plan : Plan) (past : List Entry) (e : Entry) → Holds AllWellFormed
     → IsWellFormed plan e
 may_well plan past e law legal may = All-head (IsWellFormed plan) e past (law (e ∷ past) (legal, may))
 
--- so are all that a standing lets its participant make
-pub shown_well : (plan : Plan) (past : List Entry) (t : ℕ) (s : Standing) → Holds AllWellFormed plan → LegalPast plan past
-    → IsStanding plan past t s → All (IsWellFormed plan) (entries_in t s)
-shown_well plan past t (standing.Makes e) law legal is =
-    All-cons (IsWellFormed plan) e [] (may_well plan past e law legal is.may) (All-nil (IsWellFormed plan))
-shown_well plan past t (standing.Puts well fault) law legal is =
-    All-cons (IsWellFormed plan) well (fault ∷ []) (may_well plan past well law legal is.may.0)
-    (All-cons (IsWellFormed plan) fault [] (may_well plan past fault law legal is.may.1) (All-nil (IsWellFormed plan)))
-shown_well plan past t (standing.Works work) law legal is =
+-- so are all that a move lets its participant make
+pub shown_well : (plan : Plan) (past : List Entry) (t : ℕ) (s : Move) → Holds AllWellFormed plan → LegalPast plan past
+    → IsMove plan past t s → All (IsWellFormed plan) (entries_in t s)
+shown_well plan past t (move.Make e) law legal is =
+    All-cons (IsWellFormed plan) e [] (may_well plan past e law legal is.next.may) (All-nil (IsWellFormed plan))
+shown_well plan past t (move.Put e) law legal is =
+    let refusal = as_refused e.kind e in
+    All-cons (IsWellFormed plan) e (refusal ∷ []) (may_well plan past e law legal is.may.0)
+    (All-cons (IsWellFormed plan) refusal [] (may_well plan past refusal law legal is.may.1) (All-nil (IsWellFormed plan)))
+shown_well plan past t (move.Mix work) law legal is =
     All-cons (IsWellFormed plan) (work_entry work.place t work.rounds work.from) []
-    (may_well plan past (work_entry work.place t work.rounds work.from) law legal is.may) (All-nil (IsWellFormed plan))
-shown_well plan past t (standing.Waits wait) law legal is = All-nil (IsWellFormed plan)
-shown_well plan past t standing.Over law legal is = All-nil (IsWellFormed plan)
+    (may_well plan past (work_entry work.place t work.rounds work.from) law legal is.next.may) (All-nil (IsWellFormed plan))
+shown_well plan past t (move.Wait wait) law legal is = All-nil (IsWellFormed plan)
+shown_well plan past t move.Over law legal is = All-nil (IsWellFormed plan)

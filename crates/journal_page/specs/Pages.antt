@@ -6,10 +6,10 @@ use Rattle.place_plan.specs.Plans.PlanValue.{Plan}
 use Rattle.journal_text.specs.Texts.Text.{entry_line}
 use Rattle.page_text.specs.Parts.{number_text, string_text, parts_text, page_text}
 use Rattle.page_text.specs.declared.parts.Part.{Part}
-use Rattle.journal_states.specs.declared.standing.Lack.{Lack}
-use Rattle.journal_states.specs.declared.standing.Lack.TheVariants as lack
-use Rattle.journal_states.specs.declared.standing.Standing.{Standing}
-use Rattle.journal_states.specs.declared.standing.Standing.TheVariants as standing
+use Rattle.journal_replay.specs.declared.moves.Lack.{Lack}
+use Rattle.journal_replay.specs.declared.moves.Lack.TheVariants as lack
+use Rattle.journal_replay.specs.declared.moves.Move.{Move}
+use Rattle.journal_replay.specs.declared.moves.Move.TheVariants as move
 use Rattle.journal_page.specs.declared.stances.Stance.{Stance}
 use Rattle.journal_page.specs.declared.turns.Turn.{Turn}
 use Rattle.journal_page.specs.Stances.{IsStance, AreTurns, StopsAt}
@@ -31,15 +31,14 @@ lack_number lack.Halts = 2
 lack_number lack.Verdicts = 3
 lack_number lack.GiveUps = 4
 lack_number (lack.Object o) = 5
-lack_number lack.Unnamed = 6
 
--- the number of a kind of standing; that of a wait is 3 and the number of what is lacking
-abbrev pub standing_number : Standing → ℕ
-standing_number standing.Over = 0
-standing_number (standing.Makes e) = 1
-standing_number (standing.Works work) = 1
-standing_number (standing.Puts well fault) = 2
-standing_number (standing.Waits wait) = 3 + lack_number wait.lack
+-- the number of a kind of move; that of a wait is 3 and the number of what is lacking
+abbrev pub move_number : Move → ℕ
+move_number move.Over = 0
+move_number (move.Make e) = 1
+move_number (move.Mix work) = 1
+move_number (move.Put e) = 2
+move_number (move.Wait wait) = 3 + lack_number wait.lack
 
 -- the line of each entry
 abbrev pub lines_text : Plan → List Entry → List ℕ
@@ -47,7 +46,7 @@ lines_text plan entries = flat_map (λ e. string_text (entry_line plan e)) entri
 
 -- who stands in which place, at which line, and how
 abbrev pub seat_text : Stance → List ℕ
-seat_text s = number_text s.by ++ number_text (place_number s.place) ++ number_text s.line ++ number_text (standing_number s.standing)
+seat_text s = number_text s.by ++ number_text (place_number s.place) ++ number_text s.line ++ number_text (move_number s.next)
 
 -- the entries that a participant may make
 abbrev pub choices_text : Plan → Stance → List ℕ

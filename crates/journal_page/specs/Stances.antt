@@ -7,17 +7,18 @@ use Rattle.place_plan.specs.RulesOfJournals.Machine.{work_entry}
 use Rattle.place_plan.specs.RulesOfJournals.Rules.{MayFollow}
 use Rattle.place_plan.specs.RulesOfJournals.WellFormed.{IsWellFormed}
 use Rattle.place_plan.specs.RulesOfJournals.Whereabouts.{inside}
-use Rattle.journal_states.specs.Standings.{IsStanding}
-use Rattle.journal_states.specs.declared.standing.Standing.{Standing}
-use Rattle.journal_states.specs.declared.standing.Standing.TheVariants as standing
+use Rattle.journal_laws.specs.Due.{as_refused}
+use Rattle.journal_replay.specs.Moves.{IsMove}
+use Rattle.journal_replay.specs.declared.moves.Move.{Move}
+use Rattle.journal_replay.specs.declared.moves.Move.TheVariants as move
 use Rattle.journal_page.specs.declared.stances.Stance.{Stance}
 use Rattle.journal_page.specs.declared.turns.Turn.{Turn}
 
--- the entries that a standing lets t make
-abbrev pub entries_in : ℕ → Standing → List Entry
-entries_in t (standing.Makes e) = e ∷ []
-entries_in t (standing.Puts well fault) = well ∷ fault ∷ []
-entries_in t (standing.Works work) = work_entry work.place t work.rounds work.from ∷ []
+-- the entries that a move lets t make
+abbrev pub entries_in : ℕ → Move → List Entry
+entries_in t (move.Make e) = e ∷ []
+entries_in t (move.Put e) = e ∷ as_refused e.kind e ∷ []
+entries_in t (move.Mix work) = work_entry work.place t work.rounds work.from ∷ []
 entries_in t _ = []
 
 -- the entries that a stance shows are well formed
@@ -33,8 +34,8 @@ pub record TurnsWellFormed (plan : Plan) (t : Turn) : Type 0 where
 pub record IsStance (plan : Plan) (past : List Entry) (s : Stance) : Type 0 where
   pub known : s.by < length plan.participants
   pub place : s.place ≡ inside plan past s.by
-  pub standing : IsStanding plan past s.by s.standing
-  pub entries : s.entries.items ≡ entries_in s.by s.standing
+  pub next : IsMove plan past s.by s.next
+  pub entries : s.entries.items ≡ entries_in s.by s.next
 
 -- the turn of entry k: that entry, and stances that are right after it
 pub record IsTurn (plan : Plan) (entries : List Entry) (k : ℕ) (t : Turn) : Type 0 where

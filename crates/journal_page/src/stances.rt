@@ -4,15 +4,15 @@ ghost use Rattle.std.specs.Prelude.{◌≡◌, ◌<◌, length, IfOk, IfSome};
 ghost use Rattle.std.specs.List.{All};
 ghost use Rattle.place_plan.specs.RulesOfJournals.WellFormed.{IsWellFormed};
 ghost use Rattle.place_plan.specs.RulesOfJournals.Whereabouts.{inside};
-ghost use Rattle.journal_states.specs.Standings.{IsStanding};
+ghost use Rattle.journal_replay.specs.Moves.{IsMove};
 ghost use Rattle.journal_states.specs.Past.{plan_in, past_in};
 ghost use Rattle.journal_page.specs.Pages.{place_number};
 ghost use Rattle.journal_page.specs.Stances.{entries_in, IsStance, ShowsWellFormed};
 
 use caa_base::written::entry::{Entry, Object, OutOfMemory, Participant, Place};
 use journal_laws::is_well_formed;
+use journal_replay::moves::{Lack, Move, Wait, refused};
 use journal_states::spots::Spot;
-use journal_states::standing::{Lack, Standing, Wait};
 use journal_states::states::States;
 use place_plan::plans::plan::Plan;
 use std::alloc::Global;
@@ -24,7 +24,7 @@ pub struct Stance {
     pub place: Option<Place>,
     /// The line of the script, counted from 1; 0 where there is none.
     pub line: u32,
-    pub standing: Standing,
+    pub next: Move,
     /// The entries that it may make, and no others.
     pub entries: Vec<Entry>,
     /// Whom it waits for; or what, as pairs of an object and of the number of the place that holds it, counted from 1.
@@ -37,23 +37,19 @@ pub trait Lines {
     fn line_of(&self, plan: &Plan, by: Participant, spot: &Spot) -> u32;
 }
 
-/// The entries that a standing lets a participant make.
-fn entries_in(
-    alloc: Global,
-    by: Participant,
-    standing: &Standing,
-) -> Result<Vec<Entry>, OutOfMemory>
-    ensures { IfOk result (λ entries. entries.items ≡ entries_in by standing.now) }
+/// The entries that a move lets a participant make.
+fn entries_in(alloc: Global, by: Participant, next: &Move) -> Result<Vec<Entry>, OutOfMemory>
+    ensures { IfOk result (λ entries. entries.items ≡ entries_in by next.now) }
 {
     let mut entries = Vec::new(alloc);
-    match standing {
-        Standing::Makes(entry) => entries.push(*entry)?,
-        Standing::Works(work) => entries.push(work.entry(by))?,
-        Standing::Puts { well, fault } => {
-            entries.push(*well)?;
-            entries.push(*fault)?;
+    match next {
+        Move::Make(entry) => entries.push(*entry)?,
+        Move::Mix(work) => entries.push(work.entry(by))?,
+        Move::Put(entry) => {
+            entries.push(*entry)?;
+            entries.push(refused(*entry))?;
         }
-        Standing::Waits(_) | Standing::Over => {}
+        Move::Wait(_) | Move::Over => {}
     }
     Ok(entries)
 }
@@ -97,13 +93,9 @@ fn awaited_objects(alloc: Global, states: &States, place: Place) -> Result<Vec<u
     Ok(awaited)
 }
 
-/// Whom or what a standing waits for.
-fn awaited_in(
-    alloc: Global,
-    states: &States,
-    standing: &Standing,
-) -> Result<Vec<u64>, OutOfMemory> {
-    let Standing::Waits(wait) = standing else {
+/// Whom or what a move waits for.
+fn awaited_in(alloc: Global, states: &States, next: &Move) -> Result<Vec<u64>, OutOfMemory> {
+    let Move::Wait(wait) = next else {
         return Ok(Vec::new(alloc));
     };
     match wait.lack {
@@ -125,14 +117,14 @@ fn line_in<L: Lines>(lines: &L, states: &States, by: Participant) -> u32 {
     }
 }
 
-/// What a standing lets a participant make is well formed.
-fn choices_are_well_formed(states: &States, by: Participant, standing: &Standing)
-    requires { IsStanding (plan_in states.now) (past_in states.now) by standing.now }
-    ensures { All (IsWellFormed (plan_in states.now)) (entries_in by standing.now) }
+/// What a move lets a participant make is well formed.
+fn choices_are_well_formed(states: &States, by: Participant, next: &Move)
+    requires { IsMove (plan_in states.now) (past_in states.now) by next.now }
+    ensures { All (IsWellFormed (plan_in states.now)) (entries_in by next.now) }
 {
     is_well_formed(states.plan());
     let _ = by;
-    let _ = standing;
+    let _ = next;
 }
 
 /// The stance of a participant that stands so after the entries that were taken in.
@@ -142,22 +134,22 @@ fn stance_of(
     by: Participant,
     place: Option<Place>,
     line: u32,
-    standing: Standing,
+    next: Move,
     awaited: Vec<u64>,
 ) -> Result<Stance, OutOfMemory>
     requires known { by < length (plan_in states.now).participants }
     requires place { place ≡ inside (plan_in states.now) (past_in states.now) by }
-    requires standing { IsStanding (plan_in states.now) (past_in states.now) by standing }
+    requires next { IsMove (plan_in states.now) (past_in states.now) by next }
     ensures right { IfOk result (IsStance (plan_in states.now) (past_in states.now)) }
     ensures well_formed { IfOk result (ShowsWellFormed (plan_in states.now)) }
 {
-    choices_are_well_formed(states, by, &standing);
-    let entries = entries_in(alloc, by, &standing)?;
+    choices_are_well_formed(states, by, &next);
+    let entries = entries_in(alloc, by, &next)?;
     Ok(Stance {
         by,
         place,
         line,
-        standing,
+        next,
         entries,
         awaited,
     })
@@ -168,12 +160,12 @@ fn is_as_before(
     before: Option<&Stance>,
     place: Option<Place>,
     line: u32,
-    standing: &Standing,
+    next: &Move,
     awaited: &[u64],
 ) -> bool {
     match before {
         Some(stance) => {
-            stance.standing == *standing
+            stance.next == *next
                 && stance.place == place
                 && stance.line == line
                 && stance.awaited.as_slice() == awaited
@@ -194,13 +186,13 @@ pub(crate) fn stance_unless<L: Lines>(
     ensures right { IfOk result (λ found. IfSome found (IsStance (plan_in states.now) (past_in states.now))) }
     ensures well_formed { IfOk result (λ found. IfSome found (ShowsWellFormed (plan_in states.now))) }
 {
-    let standing = states.standing(by);
+    let next = states.move_of(by);
     let place = states.place_of(by);
     let line = line_in(lines, states, by);
-    let awaited = awaited_in(alloc, states, &standing)?;
-    if is_as_before(before, place, line, &standing, &awaited) {
+    let awaited = awaited_in(alloc, states, &next)?;
+    if is_as_before(before, place, line, &next, &awaited) {
         return Ok(None);
     }
-    let stance = stance_of(alloc, states, by, place, line, standing, awaited)?;
+    let stance = stance_of(alloc, states, by, place, line, next, awaited)?;
     Ok(Some(stance))
 }

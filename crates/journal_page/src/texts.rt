@@ -5,13 +5,13 @@ ghost use Rattle.std.specs.List.{All, flat_map};
 ghost use Rattle.place_plan.specs.RulesOfJournals.WellFormed.{IsWellFormed};
 ghost use Rattle.journal_text.specs.Texts.Text.{entry_line};
 ghost use Rattle.page_text.specs.Parts.{number_text, string_text};
-ghost use Rattle.journal_page.specs.Pages.{place_number, lack_number, standing_number, lines_text, seat_text, choices_text, awaited_text, list_text, stance_text, turn_text};
+ghost use Rattle.journal_page.specs.Pages.{place_number, lack_number, move_number, lines_text, seat_text, choices_text, awaited_text, list_text, stance_text, turn_text};
 ghost use Rattle.journal_page.specs.Stances.{ShowsWellFormed, TurnsWellFormed};
 
 use crate::stances::{Stance, place_number};
 use crate::turns::Turn;
 use caa_base::written::entry::{Entry, OutOfMemory};
-use journal_states::standing::{Lack, Standing};
+use journal_replay::moves::{Lack, Move};
 use journal_text::texts::text_writer::push_entry;
 use page_text::parts::{Part, push_number, push_part, push_text};
 use place_plan::plans::plan::Plan;
@@ -28,20 +28,19 @@ fn lack_number(lack: Lack) -> u64
         Lack::Verdicts => 3,
         Lack::GiveUps => 4,
         Lack::Object(_) => 5,
-        Lack::Unnamed => 6,
     }
 }
 
-/// The number of a kind of standing.
-fn standing_number(standing: &Standing) -> u64
-    ensures { result ≡ standing_number standing.now }
+/// The number of a kind of move.
+fn move_number(next: &Move) -> u64
+    ensures { result ≡ move_number next.now }
 {
-    match standing {
-        Standing::Over => 0,
-        Standing::Makes(_) => 1,
-        Standing::Works(_) => 1,
-        Standing::Puts { well: _, fault: _ } => 2,
-        Standing::Waits(wait) => 3 + lack_number(wait.lack),
+    match next {
+        Move::Over => 0,
+        Move::Make(_) => 1,
+        Move::Mix(_) => 1,
+        Move::Put(_) => 2,
+        Move::Wait(wait) => 3 + lack_number(wait.lack),
     }
 }
 
@@ -107,7 +106,7 @@ fn push_seat(text: &mut Vec<u8>, stance: &Stance) -> Result<(), OutOfMemory>
     push_number(text, u64::from(stance.by))?;
     push_number(text, place_number(stance.place))?;
     push_number(text, u64::from(stance.line))?;
-    push_number(text, standing_number(&stance.standing))
+    push_number(text, move_number(&stance.next))
 }
 
 /// Adds the entries that a stance lets its participant make.

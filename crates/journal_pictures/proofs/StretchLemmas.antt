@@ -11,16 +11,16 @@ use Rattle.place_plan.specs.RulesOfJournals.Journals.{LegalPast}
 use Rattle.journal_laws.specs.Due.{plainly}
 use Rattle.journal_laws.proofs.Playable.{IsPlayable}
 use Rattle.journal_laws.proofs.Over.{over_from}
-use Rattle.journal_states.specs.declared.standing.Standing.TheVariants as standing
-use Rattle.journal_states.specs.declared.standing.Wait.{Wait}
-use Rattle.journal_states.specs.Standings.{IsStanding}
+use Rattle.journal_replay.specs.Moves.{IsMove}
+use Rattle.journal_replay.specs.declared.moves.Move.TheVariants as move
+use Rattle.journal_replay.specs.declared.moves.Wait.{Wait}
 use Rattle.journal_pictures.specs.declared.stretches.Doing.{Doing}
 use Rattle.journal_pictures.specs.declared.stretches.Doing.TheVariants as doing
 use Rattle.journal_pictures.specs.Stretches.{is_wait, HasToWait}
 
--- who waits by its standing has to wait
+-- who waits by its move has to wait
 pub has_to_wait : (plan : Plan) (past : List Entry) (t : ℕ) (w : Wait)
-    → IsStanding plan past t (standing.Waits w) → (is_wait (doing.Wait w) ≡ true) ↔ HasToWait plan past t
+    → IsMove plan past t (move.Wait w) → (is_wait (doing.Wait w) ≡ true) ↔ HasToWait plan past t
 has_to_wait plan past t w h = (λ _. (h.0, h.1), λ _. refl)
 
 -- who may make an entry hasn't

@@ -2,7 +2,7 @@
 
 use caa_base::written::entry::{Entry, OutOfMemory, Participant};
 use caa_base::written::line::{push_value, push_word};
-use journal_states::standing::Standing;
+use journal_replay::moves::Move;
 use journal_states::states::States;
 use journal_states::words::{lack_words, participant_name, push_awaited, push_place};
 use journal_text::texts::text_writer::{object_name, push_entry};
@@ -54,8 +54,8 @@ fn push_values(text: &mut Vec<u8>, states: &States) -> Result<(), OutOfMemory> {
 
 /// Adds what a participant may do that isn't through, or what it waits for.
 fn push_standing(text: &mut Vec<u8>, states: &States, by: Participant) -> Result<(), OutOfMemory> {
-    let standing = states.standing(by);
-    if standing == Standing::Over {
+    let next = states.move_of(by);
+    if next == Move::Over {
         return Ok(());
     }
     text.extend_from_slice(b"The")?;
@@ -65,16 +65,16 @@ fn push_standing(text: &mut Vec<u8>, states: &States, by: Participant) -> Result
         push_place(text, states.plan(), place)?;
         push_word(text, b"and")?;
     }
-    match standing {
-        Standing::Makes(entry) => push_may(text, states.plan(), &entry)?,
-        Standing::Puts { well, .. } => push_may(text, states.plan(), &well)?,
-        Standing::Works(work) => push_may(text, states.plan(), &work.entry(by))?,
-        Standing::Waits(wait) => {
+    match next {
+        Move::Make(entry) => push_may(text, states.plan(), &entry)?,
+        Move::Put(entry) => push_may(text, states.plan(), &entry)?,
+        Move::Mix(work) => push_may(text, states.plan(), &work.entry(by))?,
+        Move::Wait(wait) => {
             push_word(text, b"waits for")?;
             push_awaited(text, states, &wait)?;
             push_word(text, lack_words(wait.lack))?;
         }
-        Standing::Over => {}
+        Move::Over => {}
     }
     text.extend_from_slice(b".\n")?;
     Ok(())

@@ -8,8 +8,8 @@ ghost use Rattle.journal_pictures.specs.inner.Lanes.{LiesIn, GoesTo, AreOpen, Ar
 
 use caa_base::written::entry::{Entry, Kind, OutOfMemory, Participant};
 use caa_base::written::line::push_word;
+use journal_replay::moves::{Move, Wait};
 use journal_states::spots::Phase;
-use journal_states::standing::{Standing, Wait};
 use journal_states::states::States;
 use journal_states::words::{lack_words, push_some_awaited};
 use place_plan::plans::plan::Plan;
@@ -74,12 +74,12 @@ fn doing_inside(states: &States, by: Participant) -> Doing
     ensures waits { (is_wait result ≡ true) ↔ HasToWait (plan_in states.now) (past_in states.now) by }
     ensures here { is_away result ≡ false }
 {
-    match states.standing(by) {
-        Standing::Waits(wait) => Doing::Wait(wait),
-        Standing::Over => Doing::Turn,
-        Standing::Puts { well, .. } => doing_before(states, by, well.kind),
-        Standing::Makes(entry) => doing_before(states, by, entry.kind),
-        Standing::Works(_) => doing_before(states, by, Kind::Work),
+    match states.move_of(by) {
+        Move::Wait(wait) => Doing::Wait(wait),
+        Move::Over => Doing::Turn,
+        Move::Put(entry) => doing_before(states, by, entry.kind),
+        Move::Make(entry) => doing_before(states, by, entry.kind),
+        Move::Mix(_) => doing_before(states, by, Kind::Work),
     }
 }
 

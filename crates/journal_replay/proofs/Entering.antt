@@ -1,20 +1,24 @@
--- Which alternate is entered: the first that hasn't ended.
-use Rattle.std.proofs.Common.{◌≡◌, ◌∙◌, ℕ, ◌==◌, Bool, true, false, List, [], ◌∷◌, Some, refl, sym, ap}
+-- Which alternate is entered: the first that hasn't ended. One is left for whoever comes to a use, and handlers come to none.
+use Rattle.std.proofs.Common.{◌≡◌, ◌∙◌, ℕ, ◌==◌, Bool, true, false, List, [], ◌∷◌, Option, Some, None, IsSome, slice_get, rules, refl, sym, subst, ap}
 use Rattle.std.proofs.lemmas.Bool.{eq-eqb, or_left, or_right}
 use Rattle.caa_base.specs.declared.written.entry.Entry.{Entry}
 use Rattle.caa_base.specs.declared.written.entry.Kind.TheVariants as kind
 use Rattle.caa_base.specs.Written.Lists.{member, first_not, first_of}
+use Rattle.place_plan.specs.declared.drafts.draft_rows.Step.{Step}
 use Rattle.place_plan.specs.declared.drafts.draft_rows.Step.TheVariants as step
 use Rattle.place_plan.specs.Plans.PlanValue.{Plan}
 use Rattle.place_plan.specs.Plans.Places.{parent, alternates_of}
-use Rattle.place_plan.specs.RulesOfJournals.Entries.{has_by}
+use Rattle.place_plan.specs.RulesOfJournals.Entries.{is_by, has_by}
 use Rattle.place_plan.specs.RulesOfJournals.Whereabouts.{inside, has_ended}
-use Rattle.place_plan.specs.RulesOfJournals.Raising.{is_calm, exception_handled}
-use Rattle.place_plan.specs.RulesOfJournals.Roles.{next_step, position}
+use Rattle.place_plan.specs.RulesOfJournals.Raising.{has_handled, is_calm, exception_handled}
+use Rattle.place_plan.specs.RulesOfJournals.Roles.{program_in, next_step, position}
 use Rattle.place_plan.specs.RulesOfJournals.Journals.{LegalPast}
 use Rattle.journal_laws.proofs.Playable.{IsPlayable}
 use Rattle.journal_laws.proofs.Arrivals.{settled, left_ended, whole}
 use Rattle.journal_laws.proofs.Holding.{ended_started}
+use Rattle.journal_laws.proofs.Newest.{stands_newest}
+use Rattle.journal_laws.proofs.Room.{room}
+use Rattle.journal_replay.specs.inner.Deciding.{enters}
 
 -- tests that agree on a list find the same
 pub same_first : (f g : ℕ → Bool) (xs : List ℕ) → ((x : ℕ) → member x xs ≡ true → f x ≡ g x) → first_not f xs ≡ first_not g xs
@@ -46,3 +50,22 @@ module _ (plan : Plan) (playable : IsPlayable plan) where
       same_tests (has_by kind.Arrive past c t) (has_ended past c)
       (λ came. left_ended plan playable.tree past legal c t (settled plan playable.tree past legal p c t here calm into came))
       (λ ended. whole plan playable.tree past legal c t (ended_started plan playable.tree past legal c ended) role))
+
+  -- and one is left
+  pub entered_there : (past : List Entry) → LegalPast plan past → (p t k : ℕ) → inside plan past t ≡ Some p
+      → is_calm plan past p ≡ true → next_step plan past p t ≡ Some (step.Enter k)
+      → (o : Option ℕ) → o ≡ first_not (has_ended past) (alternates_of plan p k) → IsSome o
+  entered_there past legal p t k here calm next None h =
+      absurd (room plan playable past legal p t k here calm next (entered_first past legal p t k here calm next ∙ sym h))
+  entered_there past legal p t k here calm next (Some q) h = search rules
+
+  -- a handler enters nowhere
+  pub handler_stays : (past : List Entry) (p t : ℕ) → has_handled past p t ≡ true → enters (next_step plan past p t) ≡ false
+  handler_stays past p t handled = by_step (next_step plan past p t) refl
+    where
+      by_step : (s : Option Step) → next_step plan past p t ≡ s → enters s ≡ false
+      by_step (Some (step.Enter k)) n =
+          let some = stands_newest (is_by kind.Handle p t) past handled in
+          absurd (playable.plain p t some.0 (position plan past p t) k
+          (subst (λ o. slice_get (program_in plan p t o).steps (position plan past p t) ≡ Some (step.Enter k)) some.1 n))
+      by_step s n = refl

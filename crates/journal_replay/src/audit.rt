@@ -2,17 +2,17 @@ ghost use Rattle.std.specs.Prelude.{◌≡◌, ◌↔◌, [], IsTrue};
 ghost use Rattle.place_plan.specs.RulesOfJournals.Rules.{MayFollow};
 ghost use Rattle.place_plan.specs.RulesOfJournals.Journals.{AllOver};
 ghost use Rattle.journal_replay.specs.PastParts.{plan_of, entries_of};
-ghost use Rattle.journal_replay.specs.IsDue.{IsRefusalOf};
 ghost use Rattle.journal_replay.specs.Audited.{Audited};
 
 use crate::look_back::LookBack;
+use crate::moves::{Move, refused};
 use crate::past::Past;
 use crate::questions::is_over;
 use crate::records::Records;
-use crate::rule::{asks_device, entry_due, refused};
+use crate::rule::move_of;
 use caa_base::written::entry::Entry;
 use caa_base::written::journal::Journal;
-use journal_laws::{due_is_right, is_well_formed};
+use journal_laws::is_well_formed;
 use place_plan::plans::plan::Plan;
 use thiserror::Error;
 
@@ -32,25 +32,19 @@ fn is_same(entry: &Entry, other: &Entry) -> bool
     *entry == *other
 }
 
-/// Whether the entry is what the device refuses where it would take the put that is due.
-fn is_refusal(entry: &Entry, due: &Entry) -> bool
-    ensures { IsTrue result ↔ IsRefusalOf entry.now due.now }
-{
-    asks_device(due) && is_same(entry, &refused(*due))
-}
-
-/// Whether the entry is the one that is due from its maker, or that one where the device refuses it.
-fn may_follow<R: Records>(past: &Past<'_, R>, entry: &Entry) -> bool
+/// Whether an entry may follow a legal journal. It takes no memory.
+pub fn may_follow<R: Records>(past: &Past<'_, R>, entry: &Entry) -> bool
     ensures { IsTrue result ↔ MayFollow (plan_of past.now) (entries_of past.now) entry.now }
 {
-    due_is_right(past.plan);
     is_well_formed(past.plan);
     if entry.by >= past.plan.participants() {
         return false;
     }
-    match entry_due(past, entry.by) {
-        Some(due) => is_same(entry, &due) || is_refusal(entry, &due),
-        None => false,
+    match move_of(past, entry.by) {
+        Move::Make(due) => is_same(entry, &due),
+        Move::Put(well) => is_same(entry, &well) || is_same(entry, &refused(well)),
+        Move::Mix(work) => is_same(entry, &work.entry(entry.by)),
+        Move::Wait(_) | Move::Over => false,
     }
 }
 

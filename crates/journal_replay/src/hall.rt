@@ -15,17 +15,17 @@ ghost use Rattle.caa_base.specs.Outside.PlantState.{is_refused, is_drilled, afte
 ghost use Rattle.journal_replay.specs.Opening.{is_plant_fault};
 ghost use Rattle.std.proofs.Math.Nat.{le_of_eq};
 ghost use Rattle.std.proofs.Common.{sym};
+ghost use Rattle.journal_laws.specs.Due.{as_refused};
 ghost use Rattle.journal_replay.specs.IsDue.{DeviceDecides};
-ghost use Rattle.journal_replay.specs.inner.Duty.{MayWorkNow, IsTurn};
+ghost use Rattle.journal_replay.specs.Moves.{MayWorkNow, IsMove};
 
-use crate::answer::Due;
 use crate::audit::all_are_over;
-use crate::duty::{Turn, Work};
 use crate::look_back::LookBack;
+use crate::moves::{Move, Work, refused};
 use crate::past::Past;
 use crate::questions::gathers;
 use crate::records::Records;
-use crate::rule::turn;
+use crate::rule::move_of;
 use caa_base::outside::plant::{Plant, PlantError};
 use caa_base::written::entry::{
     Drill, Entry, Failed, Kind, Object, OutOfMemory, Participant, Place,
@@ -149,12 +149,12 @@ fn begin<R: Records>(alloc: Global, plan: &Plan) -> Result<(Journal, R), OutOfMe
 
 /// Asks a plant for a put, once, and tells it the entry for its answer.
 #[tactic(auto, using(crate::proofs::Telling::goes_on_telling))]
-fn answer_of<P: Plant>(plant: &mut P, well: Entry, fault: Entry) -> Entry
+fn answer_of<P: Plant>(plant: &mut P, well: Entry) -> Entry
     requires room { P.calls plant.old < P.room plant.old }
     requires laid { well.arg < P.objects plant.old }
     requires taken { is_fault well ≡ false }
-    requires refused { is_fault fault ≡ true }
-    ensures either { (result ≡ well) ⊎ (result ≡ fault) }
+    requires refused { is_fault (as_refused well.kind well) ≡ true }
+    ensures either { (result ≡ well) ⊎ (result ≡ as_refused well.kind well) }
     ensures state { P.state plant.new ≡ (if is_fault result then P.state plant.old else after_put (P.state plant.old) well.arg well.value) }
     ensures drilling { P.drilling plant.new ≡ after_try (P.drilling plant.old) well.arg }
     ensures history { P.history plant.new ≡ after_asked
@@ -176,7 +176,7 @@ fn answer_of<P: Plant>(plant: &mut P, well: Entry, fault: Entry) -> Entry
     };
     let entry = match answer {
         Ok(()) => well,
-        Err(Failed) => fault,
+        Err(Failed) => refused(well),
     };
     plant.entered(&entry);
     entry
@@ -294,18 +294,18 @@ impl<P: Plant, R: Records> Played<P, R> {
     }
 
     /// Asks the device for a put, once, and adds the entry for its answer.
-    fn ask(&mut self, well: Entry, fault: Entry) -> Entry
-        requires may { DeviceDecides (plan_in self.old) (reverse (journal_in self.old)) well.by well fault }
+    fn ask(&mut self, well: Entry) -> Entry
+        requires may { DeviceDecides (plan_in self.old) (reverse (journal_in self.old)) well.by well (as_refused well.kind well) }
         ensures plan { plan_in self.new ≡ plan_in self.old }
         ensures base { base_in self.new ≡ base_in self.old }
         ensures journal { journal_in self.new ≡ journal_in self.old ++ result ∷ [] }
-        ensures answer { (result ≡ well) ⊎ (result ≡ fault) }
+        ensures answer { (result ≡ well) ⊎ (result ≡ as_refused well.kind well) }
         ensures count { CountsFault (is_fault result) (P.faults (plant_in self.old)) (P.faults (plant_in self.new)) }
     {
         is_bounded(&self.plan);
         is_well_formed(&self.plan);
         last_put_is_value(&self.plan);
-        let entry = answer_of(&mut self.plant, well, fault);
+        let entry = answer_of(&mut self.plant, well);
         self.records
             .note(&self.plan, self.journal.as_slice(), &entry);
         self.journal.push(entry);
@@ -324,7 +324,7 @@ impl<P: Plant, R: Records> Played<P, R> {
     {
         match hint {
             Some(done) if fits(&done, &work) => {
-                let entry = work.entry(by, &done);
+                let entry = work.mixed(by, &done);
                 self.add(entry);
                 Answer::Did(entry)
             }
@@ -356,10 +356,10 @@ impl<P: Plant, R: Records> Played<P, R> {
 
     /// What a participant does in its turn.
     #[inline(always)]
-    fn turn(&self, by: Participant) -> Turn
-        ensures { IsTurn (plan_in self.now) (reverse (journal_in self.now)) by result }
+    fn move_of(&self, by: Participant) -> Move
+        ensures { IsMove (plan_in self.now) (reverse (journal_in self.now)) by result }
     {
-        turn(&self.past(), by)
+        move_of(&self.past(), by)
     }
 }
 
@@ -393,17 +393,15 @@ impl<P: Plant, R: Records> Machine for Played<P, R> {
         ensures count { CountsFault (made_fault result) (P.faults (plant_in self.old)) (P.faults (plant_in self.new)) }
         ensures answer { Answers (plan_in self.old) (journal_in self.old) (journal_in self.new) by hint result }
     {
-        match self.turn(by) {
-            Turn::Mix(work) => self.take_work(by, work, hint),
-            Turn::Act(due) => match due {
-                Due::NotYet => Answer::NotYet,
-                Due::Over => Answer::Over,
-                Due::Now(entry) => {
-                    self.add(entry);
-                    Answer::Did(entry)
-                }
-                Due::Put { well, fault } => Answer::Did(self.ask(well, fault)),
-            },
+        match self.move_of(by) {
+            Move::Mix(work) => self.take_work(by, work, hint),
+            Move::Wait(_) => Answer::NotYet,
+            Move::Over => Answer::Over,
+            Move::Make(entry) => {
+                self.add(entry);
+                Answer::Did(entry)
+            }
+            Move::Put(well) => Answer::Did(self.ask(well)),
         }
     }
 
@@ -413,7 +411,7 @@ impl<P: Plant, R: Records> Machine for Played<P, R> {
             rounds: done.rounds(),
             from: done.from(),
         };
-        let entry = work.entry(by, done);
+        let entry = work.mixed(by, done);
         self.add(entry);
         entry
     }

@@ -4,9 +4,9 @@
 
 pub mod answer;
 pub mod audit;
-mod duty;
 pub mod hall;
 pub mod look_back;
+pub mod moves;
 pub mod past;
 pub mod programs;
 pub mod questions;

@@ -3,27 +3,28 @@ ghost use Rattle.caa_base.specs.declared.written.entry.Kind.TheVariants as kind;
 ghost use Rattle.caa_base.specs.Written.Limits.{IsValue};
 ghost use Rattle.caa_base.specs.Written.Lists.{first_not};
 ghost use Rattle.place_plan.specs.declared.drafts.draft_rows.Step.TheVariants as step;
-ghost use Rattle.place_plan.specs.Plans.Places.{roles_of, handler_of, abort_row, alternates_of};
-ghost use Rattle.place_plan.specs.RulesOfJournals.Entries.{is_of, has_by};
+ghost use Rattle.place_plan.specs.Plans.Places.{roles_of, handler_of, abort_row, alternates_of, internal_of};
+ghost use Rattle.place_plan.specs.RulesOfJournals.Entries.{has_by};
 ghost use Rattle.place_plan.specs.RulesOfJournals.Whereabouts.{inside, has_ended, is_undoing};
-ghost use Rattle.place_plan.specs.RulesOfJournals.Raising.{has_handled, is_raised, is_calm, exception_resolved};
-ghost use Rattle.place_plan.specs.RulesOfJournals.Objects.{next_restore};
-ghost use Rattle.place_plan.specs.RulesOfJournals.Roles.{register, program_of, next_step, all_have_given, signals};
+ghost use Rattle.place_plan.specs.RulesOfJournals.Raising.{has_handled, exceptions_raised, is_raised, is_calm, exception_resolved};
+ghost use Rattle.place_plan.specs.RulesOfJournals.Objects.{value_of, next_restore};
+ghost use Rattle.place_plan.specs.RulesOfJournals.Roles.{register, program_of, next_step, next_play, raise_of, all_have_given, signals};
 ghost use Rattle.place_plan.specs.RulesOfJournals.Rules.{clamped, abort_of, undone_mark};
-ghost use Rattle.place_plan.specs.RulesOfJournals.Journals.{IsLegal, is_put};
-ghost use Rattle.journal_laws.specs.Due.{says, plainly, marked, naming, verdict_entry, due_waiting, due_restore, due_doomed, due_end, due_agreed, due_held, due_step, due_arrival, due_forward, due_handler, due_resolved, due_resolve, due_halted, due_hot, due_calm, due_inside, due_of, as_refused};
+ghost use Rattle.place_plan.specs.RulesOfJournals.Journals.{IsLegal};
+ghost use Rattle.journal_laws.specs.Due.{says, plainly, marked, naming, verdict_entry, least_of, due_arrival, due_waiting, due_restore, due_doomed, due_end, due_agreed, due_held, due_step, due_forward, due_handler, due_resolved, due_halted, due_hot, due_calm, due_inside, due_of};
 ghost use Rattle.journal_replay.specs.PastParts.{plan_of, entries_of};
 ghost use Rattle.journal_replay.specs.IsDue.{IsDue};
-ghost use Rattle.journal_replay.specs.inner.Duty.{entry_in, IsUnmixed, MixesRight, IsTurn};
+ghost use Rattle.journal_replay.specs.Moves.{IsMove};
+ghost use Rattle.journal_replay.specs.inner.Deciding.{entry_in, waits_for, enters, IsRight};
 
 use crate::answer::Due;
-use crate::duty::{Duty, Turn, Work};
 use crate::look_back::LookBack;
 use crate::look_back::roles::{meets, raise_of};
+use crate::moves::{Lack, Move, Wait, Work, refused};
 use crate::past::Past;
 use crate::questions::{
     all_are_halted, all_are_inside, all_have_aborted, all_have_given, exception_carried,
-    first_lasting, has_handled, holds, is_over, objects_are_ready, program_of, step_and_register,
+    first_lasting, has_handled, holds, objects_are_ready, program_of, step_and_register,
 };
 use crate::records::Records;
 use caa_base::written::entry::{
@@ -94,20 +95,31 @@ fn verdict_entry(place: Place, by: Participant, verdict: Verdict) -> Entry
     marked(Kind::Verdict, place, by, mark, exception)
 }
 
+/// The wait of a participant in the place where this is lacking.
+#[inline(always)]
+fn lacking(place: Place, lack: Lack) -> Move
+    ensures { result ≡ waits_for place lack }
+{
+    Move::Wait(Wait { place, lack })
+}
+
 // ---- a place that waits, or is undone
 
 /// What a participant does in a place that waits.
 #[inline(never)]
-fn due_waiting<R: Records>(past: &Past<'_, R>, place: Place, by: Participant) -> Option<Entry>
-    ensures entry { result ≡ due_waiting (plan_of past.now) (entries_of past.now) place by }
-    ensures unmixed { IsUnmixed result }
+fn due_waiting<R: Records>(past: &Past<'_, R>, place: Place, by: Participant) -> Move
+    requires here { inside (plan_of past.now) (entries_of past.now) by ≡ Some place }
+    ensures entry { entry_in by result ≡ due_waiting (plan_of past.now) (entries_of past.now) place by }
+    ensures right { IsRight (plan_of past.now) (entries_of past.now) by result }
 {
     if R::is_doomed(past, place) {
-        Some(plainly(Kind::Withdraw, place, by))
-    } else if all_are_inside(past, place) && objects_are_ready(past, place) {
-        Some(plainly(Kind::Start, place, by))
+        Move::Make(plainly(Kind::Withdraw, place, by))
+    } else if !all_are_inside(past, place) {
+        lacking(place, Lack::Roles)
+    } else if objects_are_ready(past, place) {
+        Move::Make(plainly(Kind::Start, place, by))
     } else {
-        None
+        lacking(place, Lack::Objects)
     }
 }
 
@@ -130,19 +142,19 @@ fn undone_mark<R: Records>(past: &Past<'_, R>, place: Place) -> u32
 
 /// The restore that is next in a place that is undone, or its End.
 #[inline(never)]
-fn due_restore<R: Records>(past: &Past<'_, R>, place: Place, by: Participant) -> Entry
+fn due_restore<R: Records>(past: &Past<'_, R>, place: Place, by: Participant) -> Move
     requires undoing { is_undoing (entries_of past.now) place ≡ true }
     requires lasts { has_ended (entries_of past.now) place ≡ false }
-    ensures entry { Some result ≡ due_restore (plan_of past.now) (entries_of past.now) place by (next_restore (plan_of past.now) (entries_of past.now) place) }
-    ensures unmixed { is_of kind.Work result ≡ false }
+    ensures entry { entry_in by result ≡ due_restore (plan_of past.now) (entries_of past.now) place by (next_restore (plan_of past.now) (entries_of past.now) place) }
+    ensures right { IsRight (plan_of past.now) (entries_of past.now) by result }
 {
     past.plan.is_closed();
     match R::next_restore(past, place) {
         Some(object) => {
             let value = R::value_at_start(past, place, object);
-            says(Kind::Restore, place, by, object, value)
+            Move::Put(says(Kind::Restore, place, by, object, value))
         }
-        None => marked(Kind::End, place, by, undone_mark(past, place), 0),
+        None => Move::Make(marked(Kind::End, place, by, undone_mark(past, place), 0)),
     }
 }
 
@@ -183,21 +195,21 @@ fn exception_named<R: Records>(
 
 /// What a participant does in a doomed place.
 #[inline(never)]
-fn due_doomed<R: Records>(past: &Past<'_, R>, place: Place, by: Participant) -> Option<Entry>
+fn due_doomed<R: Records>(past: &Past<'_, R>, place: Place, by: Participant) -> Move
     requires here { inside (plan_of past.now) (entries_of past.now) by ≡ Some place }
-    ensures entry { result ≡ due_doomed (plan_of past.now) (entries_of past.now) place by }
-    ensures unmixed { IsUnmixed result }
+    ensures entry { entry_in by result ≡ due_doomed (plan_of past.now) (entries_of past.now) place by }
+    ensures right { IsRight (plan_of past.now) (entries_of past.now) by result }
 {
     if R::has_aborted(past, place, by) {
         if all_have_aborted(past, place) {
-            Some(plainly(Kind::Undo, place, by))
+            Move::Make(plainly(Kind::Undo, place, by))
         } else {
-            None
+            lacking(place, Lack::GiveUps)
         }
     } else if all_are_inside(past, place) {
-        Some(naming(Kind::Abort, place, by, exception_named(past, place, by)))
+        Move::Make(naming(Kind::Abort, place, by, exception_named(past, place, by)))
     } else {
-        None
+        lacking(place, Lack::Roles)
     }
 }
 
@@ -215,44 +227,57 @@ fn due_end<R: Records>(past: &Past<'_, R>, place: Place, by: Participant) -> Ent
 
 /// What a participant does that has given its verdict; `raised` says whether something was raised in the place.
 #[inline(never)]
-fn due_agreed<R: Records>(
-    past: &Past<'_, R>,
-    place: Place,
-    by: Participant,
-    raised: bool,
-) -> Option<Entry>
+fn due_agreed<R: Records>(past: &Past<'_, R>, place: Place, by: Participant, raised: bool) -> Move
+    requires here { inside (plan_of past.now) (entries_of past.now) by ≡ Some place }
     requires raised { raised ≡ is_raised (plan_of past.now) (entries_of past.now) place }
-    ensures entry { result ≡ due_agreed (plan_of past.now) (entries_of past.now) place by }
-    ensures unmixed { IsUnmixed result }
+    ensures entry { entry_in by result ≡ due_agreed (plan_of past.now) (entries_of past.now) place by }
+    ensures right { IsRight (plan_of past.now) (entries_of past.now) by result }
 {
     if !all_have_given(past, place, raised) {
-        None
+        lacking(place, Lack::Verdicts)
     } else if R::wants_undo(past, place) {
-        Some(plainly(Kind::Undo, place, by))
+        Move::Make(plainly(Kind::Undo, place, by))
     } else {
-        Some(due_end(past, place, by))
+        Move::Make(due_end(past, place, by))
     }
 }
 
 // ---- steps
 
-/// The entry, where the place holds the object.
+/// What a participant does that reads an object next.
 #[inline(always)]
-fn due_held<R: Records>(
-    past: &Past<'_, R>,
-    place: Place,
-    object: Object,
-    entry: Entry,
-) -> Option<Entry>
+fn due_read<R: Records>(past: &Past<'_, R>, place: Place, by: Participant, object: Object) -> Move
+    requires here { inside (plan_of past.now) (entries_of past.now) by ≡ Some place }
     requires known { object < length (plan_of past.now).objects }
-    requires unmixed { is_of kind.Work entry ≡ false }
-    ensures entry { result ≡ due_held (plan_of past.now) (entries_of past.now) place object entry }
-    ensures unmixed { IsUnmixed result }
+    ensures entry { entry_in by result ≡ due_held (plan_of past.now) (entries_of past.now) place object (says kind.Read place by object (value_of (plan_of past.now) (entries_of past.now) object)) }
+    ensures right { IsRight (plan_of past.now) (entries_of past.now) by result }
 {
     if holds(past, place, object) {
-        Some(entry)
+        let value = R::value_at(past, object);
+        Move::Make(says(Kind::Read, place, by, object, value))
     } else {
-        None
+        lacking(place, Lack::Object(object))
+    }
+}
+
+/// What a participant does that puts this value next.
+#[inline(always)]
+fn due_write<R: Records>(
+    past: &Past<'_, R>,
+    place: Place,
+    by: Participant,
+    object: Object,
+    value: i64,
+) -> Move
+    requires here { inside (plan_of past.now) (entries_of past.now) by ≡ Some place }
+    requires known { object < length (plan_of past.now).objects }
+    ensures entry { entry_in by result ≡ due_held (plan_of past.now) (entries_of past.now) place object (says kind.Write place by object value) }
+    ensures right { IsRight (plan_of past.now) (entries_of past.now) by result }
+{
+    if holds(past, place, object) {
+        Move::Put(says(Kind::Write, place, by, object, value))
+    } else {
+        lacking(place, Lack::Object(object))
     }
 }
 
@@ -287,60 +312,44 @@ fn due_step<R: Records>(
     by: Participant,
     step: Option<Step>,
     from: i64,
-) -> Option<Duty>
+) -> Move
     requires here { inside (plan_of past.now) (entries_of past.now) by ≡ Some place }
     requires step { step ≡ next_step (plan_of past.now) (entries_of past.now) place by }
     requires start { from ≡ register (plan_of past.now) (entries_of past.now) place by }
+    requires passes { raise_of step from ≡ None }
+    requires stays { enters step ≡ false }
     ensures entry { entry_in by result ≡ due_step (plan_of past.now) (entries_of past.now) place by step }
-    ensures mixes { MixesRight (plan_of past.now) (entries_of past.now) by result }
+    ensures right { IsRight (plan_of past.now) (entries_of past.now) by result }
 {
     past.plan.is_closed();
     is_well_formed(past.plan);
     match step {
-        None => Some(Duty::Make(final_verdict(past, place, by))),
-        Some(Step::Read(object)) => {
-            let value = R::value_at(past, object);
-            let entry = says(Kind::Read, place, by, object, value);
-            Some(Duty::Make(due_held(past, place, object, entry)?))
-        }
-        Some(Step::Put(object, value)) => {
-            let entry = says(Kind::Write, place, by, object, value);
-            Some(Duty::Make(due_held(past, place, object, entry)?))
-        }
+        None => Move::Make(final_verdict(past, place, by)),
+        Some(Step::Read(object)) => due_read(past, place, by, object),
+        Some(Step::Put(object, value)) => due_write(past, place, by, object, value),
         Some(Step::Add(object, number)) => {
             let value = clamped(from, number);
-            let entry = says(Kind::Write, place, by, object, value);
-            Some(Duty::Make(due_held(past, place, object, entry)?))
+            due_write(past, place, by, object, value)
         }
-        Some(Step::Work(rounds)) => Some(Duty::Mix(Work {
+        Some(Step::Work(rounds)) => Move::Mix(Work {
             place,
             rounds,
             from,
-        })),
-        Some(Step::Check { .. }) => Some(Duty::Make(plainly(Kind::Check, place, by))),
-        Some(Step::Raise(_)) | Some(Step::Enter(_)) => None,
+        }),
+        Some(Step::Check { .. }) => Move::Make(plainly(Kind::Check, place, by)),
+        Some(Step::Raise(_)) | Some(Step::Enter(_)) => unreachable!(),
     }
 }
 
-/// The arrival of a participant in the next place of a nested use, where there is one: those that have ended are those that it
-/// has come to.
-fn due_arrival<R: Records>(
-    past: &Past<'_, R>,
-    place: Place,
-    by: Participant,
-    nest: u32,
-) -> Option<Entry>
+/// The place of a nested use that a participant enters: the first, in order, that hasn't ended. One is left.
+fn entered<R: Records>(past: &Past<'_, R>, place: Place, by: Participant, nest: u32) -> Place
     requires here { inside (plan_of past.now) (entries_of past.now) by ≡ Some place }
     requires calm { is_calm (plan_of past.now) (entries_of past.now) place ≡ true }
     requires step { next_step (plan_of past.now) (entries_of past.now) place by ≡ Some (step.Enter nest) }
-    ensures entry { result ≡ due_arrival by (first_not (λ p. has_by kind.Arrive (entries_of past.now) p by) (alternates_of (plan_of past.now) place nest)) }
-    ensures unmixed { IsUnmixed result }
+    ensures { Some result ≡ first_not (λ p. has_by kind.Arrive (entries_of past.now) p by) (alternates_of (plan_of past.now) place nest) }
 {
     past.plan.is_closed();
-    match first_lasting(past, place, nest) {
-        Some(inner) => Some(plainly(Kind::Arrive, inner, by)),
-        None => None,
-    }
+    first_lasting(past, place, nest).unwrap()
 }
 
 /// What a participant does in its body at its next step, which doesn't raise.
@@ -351,52 +360,57 @@ fn due_forward<R: Records>(
     by: Participant,
     step: Option<Step>,
     from: i64,
-) -> Option<Duty>
+) -> Move
     requires here { inside (plan_of past.now) (entries_of past.now) by ≡ Some place }
     requires calm { is_calm (plan_of past.now) (entries_of past.now) place ≡ true }
     requires step { step ≡ next_step (plan_of past.now) (entries_of past.now) place by }
     requires start { from ≡ register (plan_of past.now) (entries_of past.now) place by }
+    requires passes { raise_of step from ≡ None }
     ensures entry { entry_in by result ≡ due_forward (plan_of past.now) (entries_of past.now) place by step }
-    ensures mixes { MixesRight (plan_of past.now) (entries_of past.now) by result }
+    ensures right { IsRight (plan_of past.now) (entries_of past.now) by result }
 {
     match step {
-        Some(Step::Enter(nest)) => Some(Duty::Make(due_arrival(past, place, by, nest)?)),
+        Some(Step::Enter(nest)) => {
+            let inner = entered(past, place, by, nest);
+            Move::Make(plainly(Kind::Arrive, inner, by))
+        }
         _ => due_step(past, place, by, step, from),
     }
 }
 
 /// What a participant does in a calm place.
 #[inline(always)]
-fn due_calm<R: Records>(past: &Past<'_, R>, place: Place, by: Participant) -> Option<Duty>
+fn due_calm<R: Records>(past: &Past<'_, R>, place: Place, by: Participant) -> Move
     requires here { inside (plan_of past.now) (entries_of past.now) by ≡ Some place }
     requires calm { is_calm (plan_of past.now) (entries_of past.now) place ≡ true }
     requires unraised { is_raised (plan_of past.now) (entries_of past.now) place ≡ false }
     ensures entry { entry_in by result ≡ due_calm (plan_of past.now) (entries_of past.now) place by }
-    ensures mixes { MixesRight (plan_of past.now) (entries_of past.now) by result }
+    ensures right { IsRight (plan_of past.now) (entries_of past.now) by result }
 {
     if R::has_given(past, place, by, false) {
-        return Some(Duty::Make(due_agreed(past, place, by, false)?));
+        return due_agreed(past, place, by, false);
     }
     let (step, from) = step_and_register(past, place, by);
     match raise_of(step, from) {
-        Some(exception) => Some(Duty::Make(marked(Kind::Raise, place, by, 0, exception))),
+        Some(exception) => Move::Make(marked(Kind::Raise, place, by, 0, exception)),
         None => due_forward(past, place, by, step, from),
     }
 }
 
 // ---- recovery
 
-/// What a participant does in its handler.
+/// What a participant does in its handler, which enters nowhere.
 #[inline(never)]
-fn due_handler<R: Records>(past: &Past<'_, R>, place: Place, by: Participant) -> Option<Duty>
+fn due_handler<R: Records>(past: &Past<'_, R>, place: Place, by: Participant) -> Move
     requires here { inside (plan_of past.now) (entries_of past.now) by ≡ Some place }
     requires handled { has_handled (entries_of past.now) place by ≡ true }
     ensures entry { entry_in by result ≡ due_handler (plan_of past.now) (entries_of past.now) place by }
-    ensures mixes { MixesRight (plan_of past.now) (entries_of past.now) by result }
+    ensures right { IsRight (plan_of past.now) (entries_of past.now) by result }
 {
+    past.plan.is_closed();
     let (step, from) = step_and_register(past, place, by);
     if R::was_refused_in_handler(past, place, by) || raise_of(step, from).is_some() {
-        Some(Duty::Make(verdict_entry(place, by, Verdict::Undo)))
+        Move::Make(verdict_entry(place, by, Verdict::Undo))
     } else {
         due_step(past, place, by, step, from)
     }
@@ -418,74 +432,75 @@ fn due_resolved<R: Records>(
     place: Place,
     by: Participant,
     exception: Exception,
-) -> Option<Duty>
+) -> Move
     requires here { inside (plan_of past.now) (entries_of past.now) by ≡ Some place }
     requires hot { is_raised (plan_of past.now) (entries_of past.now) place ≡ true }
     ensures entry { entry_in by result ≡ due_resolved (plan_of past.now) (entries_of past.now) place by exception }
-    ensures mixes { MixesRight (plan_of past.now) (entries_of past.now) by result }
+    ensures right { IsRight (plan_of past.now) (entries_of past.now) by result }
 {
     if R::has_given(past, place, by, true) {
-        Some(Duty::Make(due_agreed(past, place, by, true)?))
+        due_agreed(past, place, by, true)
     } else if has_handled(past, place, by) {
         due_handler(past, place, by)
     } else if has_handler(past.plan, place, by, exception) {
-        Some(Duty::Make(marked(Kind::Handle, place, by, 0, exception)))
+        Move::Make(marked(Kind::Handle, place, by, 0, exception))
     } else {
-        Some(Duty::Make(verdict_entry(place, by, Verdict::Undo)))
+        Move::Make(verdict_entry(place, by, Verdict::Undo))
     }
 }
 
-/// The Resolve to an exception, where there is one.
-fn due_resolve(place: Place, by: Participant, exception: Option<Exception>) -> Option<Entry>
-    ensures entry { result ≡ due_resolve place by exception }
-    ensures unmixed { IsUnmixed result }
+/// The least cover of what was raised in a place, where something was.
+fn least_cover<R: Records>(past: &Past<'_, R>, place: Place) -> Exception
+    requires hot { is_raised (plan_of past.now) (entries_of past.now) place ≡ true }
+    ensures { Some result ≡ least_of (internal_of (plan_of past.now) place) (exceptions_raised (plan_of past.now) (entries_of past.now) place) }
 {
-    let exception = exception?;
-    Some(marked(Kind::Resolve, place, by, 0, exception))
+    past.plan.is_closed();
+    R::least_raised(past, place).unwrap()
 }
 
 /// What a halted participant does while its place isn't resolved yet.
-fn due_unresolved<R: Records>(past: &Past<'_, R>, place: Place, by: Participant) -> Option<Entry>
-    requires unresolved { exception_resolved (entries_of past.now) place ≡ None }
+fn due_unresolved<R: Records>(past: &Past<'_, R>, place: Place, by: Participant) -> Move
+    requires here { inside (plan_of past.now) (entries_of past.now) by ≡ Some place }
     requires hot { is_raised (plan_of past.now) (entries_of past.now) place ≡ true }
-    ensures entry { result ≡ due_halted (plan_of past.now) (entries_of past.now) place by None }
-    ensures unmixed { IsUnmixed result }
+    ensures entry { entry_in by result ≡ due_halted (plan_of past.now) (entries_of past.now) place by None }
+    ensures right { IsRight (plan_of past.now) (entries_of past.now) by result }
 {
-    if !all_are_halted(past, place) {
-        return None;
+    if all_are_halted(past, place) {
+        let exception = least_cover(past, place);
+        Move::Make(marked(Kind::Resolve, place, by, 0, exception))
+    } else {
+        lacking(place, Lack::Halts)
     }
-    past.plan.is_closed();
-    due_resolve(place, by, R::least_raised(past, place))
 }
 
 /// What a participant does that is halted.
-fn due_halted<R: Records>(past: &Past<'_, R>, place: Place, by: Participant) -> Option<Duty>
+fn due_halted<R: Records>(past: &Past<'_, R>, place: Place, by: Participant) -> Move
     requires here { inside (plan_of past.now) (entries_of past.now) by ≡ Some place }
     requires hot { is_raised (plan_of past.now) (entries_of past.now) place ≡ true }
     ensures entry { entry_in by result ≡ due_halted (plan_of past.now) (entries_of past.now) place by (exception_resolved (entries_of past.now) place) }
-    ensures mixes { MixesRight (plan_of past.now) (entries_of past.now) by result }
+    ensures right { IsRight (plan_of past.now) (entries_of past.now) by result }
 {
     match R::exception_resolved(past, place) {
         Some(exception) => due_resolved(past, place, by, exception),
-        None => Some(Duty::Make(due_unresolved(past, place, by)?)),
+        None => due_unresolved(past, place, by),
     }
 }
 
 /// What a participant does in a hot place.
 #[inline(never)]
-fn due_hot<R: Records>(past: &Past<'_, R>, place: Place, by: Participant) -> Option<Duty>
+fn due_hot<R: Records>(past: &Past<'_, R>, place: Place, by: Participant) -> Move
     requires here { inside (plan_of past.now) (entries_of past.now) by ≡ Some place }
     requires hot { is_raised (plan_of past.now) (entries_of past.now) place ≡ true }
     ensures entry { entry_in by result ≡ due_hot (plan_of past.now) (entries_of past.now) place by }
-    ensures mixes { MixesRight (plan_of past.now) (entries_of past.now) by result }
+    ensures right { IsRight (plan_of past.now) (entries_of past.now) by result }
 {
     if R::is_halted(past, place, by) {
         return due_halted(past, place, by);
     }
     let (step, from) = step_and_register(past, place, by);
     match raise_of(step, from) {
-        Some(exception) => Some(Duty::Make(marked(Kind::Raise, place, by, 0, exception))),
-        None => Some(Duty::Make(plainly(Kind::Inform, place, by))),
+        Some(exception) => Move::Make(marked(Kind::Raise, place, by, 0, exception)),
+        None => Move::Make(plainly(Kind::Inform, place, by)),
     }
 }
 
@@ -493,21 +508,21 @@ fn due_hot<R: Records>(past: &Past<'_, R>, place: Place, by: Participant) -> Opt
 
 /// What a participant does in the place that it is in.
 #[inline(always)]
-fn due_inside<R: Records>(past: &Past<'_, R>, place: Place, by: Participant) -> Option<Duty>
+fn due_inside<R: Records>(past: &Past<'_, R>, place: Place, by: Participant) -> Move
     requires here { inside (plan_of past.now) (entries_of past.now) by ≡ Some place }
     ensures entry { entry_in by result ≡ due_inside (plan_of past.now) (entries_of past.now) place by }
-    ensures mixes { MixesRight (plan_of past.now) (entries_of past.now) by result }
+    ensures right { IsRight (plan_of past.now) (entries_of past.now) by result }
 {
     let course = R::course_of(past, place);
     if course.has_ended {
         let exception = exception_carried(past, place, by);
-        Some(Duty::Make(naming(Kind::Leave, place, by, exception)))
+        Move::Make(naming(Kind::Leave, place, by, exception))
     } else if !course.has_started {
-        Some(Duty::Make(due_waiting(past, place, by)?))
+        due_waiting(past, place, by)
     } else if course.is_undoing {
-        Some(Duty::Make(due_restore(past, place, by)))
+        due_restore(past, place, by)
     } else if R::is_doomed(past, place) {
-        Some(Duty::Make(due_doomed(past, place, by)?))
+        due_doomed(past, place, by)
     } else if course.is_raised {
         due_hot(past, place, by)
     } else {
@@ -515,73 +530,40 @@ fn due_inside<R: Records>(past: &Past<'_, R>, place: Place, by: Participant) -> 
     }
 }
 
-/// What the rules give a participant to do. It takes no memory, and mixes nothing.
+/// What a participant does that is in no place: it arrives in its next play, or is over.
 #[inline(always)]
-fn duty_of<R: Records>(past: &Past<'_, R>, by: Participant) -> Option<Duty>
+fn due_outside<R: Records>(past: &Past<'_, R>, by: Participant) -> Move
+    requires out { inside (plan_of past.now) (entries_of past.now) by ≡ None }
+    ensures entry { entry_in by result ≡ due_arrival by (next_play (plan_of past.now) (entries_of past.now) by) }
+    ensures right { IsRight (plan_of past.now) (entries_of past.now) by result }
+{
+    past.plan.is_closed();
+    match R::next_play(past, by) {
+        Some(play) => Move::Make(plainly(Kind::Arrive, play, by)),
+        None => Move::Over,
+    }
+}
+
+/// What a participant does as if the device took each put.
+#[inline(always)]
+fn move_due<R: Records>(past: &Past<'_, R>, by: Participant) -> Move
     ensures entry { entry_in by result ≡ due_of (plan_of past.now) (entries_of past.now) by }
-    ensures mixes { MixesRight (plan_of past.now) (entries_of past.now) by result }
+    ensures right { IsRight (plan_of past.now) (entries_of past.now) by result }
 {
     match R::inside(past, by) {
         Some(place) => due_inside(past, place, by),
-        None => {
-            let play = R::next_play(past, by)?;
-            Some(Duty::Make(plainly(Kind::Arrive, play, by)))
-        }
+        None => due_outside(past, by),
     }
 }
 
-/// The entry that the rules give a participant, as if the device took each put.
-pub(crate) fn entry_due<R: Records>(past: &Past<'_, R>, by: Participant) -> Option<Entry>
-    ensures { result ≡ due_of (plan_of past.now) (entries_of past.now) by }
-{
-    Some(duty_of(past, by)?.entry(by))
-}
-
-/// Whether the device decides between this entry and its refusal.
-pub(crate) fn asks_device(entry: &Entry) -> bool
-    ensures { result ≡ is_put entry.now }
-{
-    entry.kind == Kind::Write || (entry.kind == Kind::Restore && entry.mark == 0)
-}
-
-/// The entry, where the device refuses what it asks.
-pub(crate) fn refused(entry: Entry) -> Entry
-    ensures { result ≡ as_refused entry.kind entry }
-{
-    match entry.kind {
-        Kind::Write => Entry {
-            kind: Kind::PutFault,
-            ..entry
-        },
-        Kind::Restore => Entry { mark: 1, ..entry },
-        _ => entry,
-    }
-}
-
-/// What a participant does in its turn. It takes no memory, and mixes nothing.
+/// What the rules let a participant do after a legal journal, or what it lacks. It takes no memory, and mixes nothing.
 #[inline(always)]
-pub(crate) fn turn<R: Records>(past: &Past<'_, R>, by: Participant) -> Turn
-    ensures { IsTurn (plan_of past.now) (entries_of past.now) by result }
+pub fn move_of<R: Records>(past: &Past<'_, R>, by: Participant) -> Move
+    ensures { IsMove (plan_of past.now) (entries_of past.now) by result }
 {
     due_is_right(past.plan);
-    let Some(duty) = duty_of(past, by) else {
-        return Turn::Act(if is_over(past, by) {
-            Due::Over
-        } else {
-            Due::NotYet
-        });
-    };
-    match duty {
-        Duty::Mix(work) => Turn::Mix(work),
-        Duty::Make(entry) => Turn::Act(if asks_device(&entry) {
-            Due::Put {
-                well: entry,
-                fault: refused(entry),
-            }
-        } else {
-            Due::Now(entry)
-        }),
-    }
+    past.plan.is_closed();
+    move_due(past, by)
 }
 
 /// What the rules let a participant do after a legal journal. It takes no memory.
@@ -595,8 +577,14 @@ pub fn due(plan: &Plan, journal: &Journal, by: Participant) -> Due
         records: &LookBack,
         journal: journal.as_slice(),
     };
-    match turn(&past, by) {
-        Turn::Mix(work) => Due::Now(work.mixed(by)),
-        Turn::Act(due) => due,
+    match move_of(&past, by) {
+        Move::Make(entry) => Due::Now(entry),
+        Move::Put(well) => Due::Put {
+            well,
+            fault: refused(well),
+        },
+        Move::Mix(work) => Due::Now(work.entry(by)),
+        Move::Wait(_) => Due::NotYet,
+        Move::Over => Due::Over,
     }
 }

@@ -9,14 +9,15 @@ ghost use Rattle.place_plan.proofs.OnJournals.LegalProp.{LegalPast-prop};
 ghost use Rattle.action_core.specs.inner.KeptPast.{StandsFor as TablesStand};
 ghost use Rattle.action_core.specs.inner.OneWay.{StandsFor-prop};
 
-use crate::decision::{may_follow, standing_of};
 use crate::spots::{Spot, Spots};
-use crate::standing::{Lack, Standing, Wait};
 use action_core::Tables;
 use caa_base::written::entry::{Entry, Object, OutOfMemory, Participant, Place};
+use journal_replay::audit::may_follow;
+use journal_replay::moves::{Lack, Move, Wait};
 use journal_replay::past::Past;
 use journal_replay::questions::holds;
 use journal_replay::records::Records;
+use journal_replay::rule::move_of;
 use place_plan::plans::plan::Plan;
 use std::alloc::Global;
 
@@ -36,7 +37,7 @@ pub struct States<'a> {
 }
 
 impl<'a> States<'a> {
-    ghost use Rattle.journal_states.specs.Standings.{IsStanding};
+    ghost use Rattle.journal_replay.specs.Moves.{IsMove};
     ghost use Rattle.journal_replay.specs.PastParts.{plan_of, entries_of};
     ghost use Rattle.journal_states.specs.Past.{plan_in, journal_in, taken_in, past_in, Stepped};
 
@@ -115,13 +116,13 @@ impl<'a> States<'a> {
     }
 
     /// What a participant may do, or what it waits for. It mixes nothing. A participant that the plan doesn't have is over.
-    pub fn standing(&self, by: Participant) -> Standing
-        ensures { by < length (plan_in self.now).participants → IsStanding (plan_in self.now) (past_in self.now) by result }
+    pub fn move_of(&self, by: Participant) -> Move
+        ensures { by < length (plan_in self.now).participants → IsMove (plan_in self.now) (past_in self.now) by result }
     {
         if by >= self.plan.participants() {
-            return Standing::Over;
+            return Move::Over;
         }
-        standing_of(&self.past(), by)
+        move_of(&self.past(), by)
     }
 
     /// The innermost place that a participant is in.
@@ -152,7 +153,7 @@ impl<'a> States<'a> {
             Lack::Halts => !Tables::is_halted(&self.past(), wait.place, role),
             Lack::Verdicts => !self.has_given(wait.place, role),
             Lack::GiveUps => !Tables::has_aborted(&self.past(), wait.place, role),
-            Lack::Objects | Lack::Object(_) | Lack::Unnamed => false,
+            Lack::Objects | Lack::Object(_) => false,
         }
     }
 

@@ -1,9 +1,9 @@
 //! What a wait is for, in words.
 
-use crate::standing::{Lack, Wait};
 use crate::states::States;
 use caa_base::written::entry::{Object, OutOfMemory, Participant, Place};
 use caa_base::written::line::{push_number, push_word};
+use journal_replay::moves::{Lack, Wait};
 use journal_text::texts::text_writer::object_name;
 use place_plan::plans::plan::Plan;
 
@@ -30,7 +30,6 @@ pub fn lack_words(lack: Lack) -> &'static [u8] {
         Lack::Halts => b"to be told, or to raise something",
         Lack::Verdicts => b"to give a verdict",
         Lack::GiveUps => b"to give up",
-        Lack::Unnamed => b"to be told of",
     }
 }
 
@@ -52,7 +51,6 @@ pub fn push_some_awaited(
         }
         Lack::Objects => push_objects(text, states, wait.place),
         Lack::Object(object) => push_held(text, states, object),
-        Lack::Unnamed => push_word(text, b"something"),
     }
 }
 

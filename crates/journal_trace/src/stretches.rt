@@ -6,7 +6,7 @@ ghost use Rattle.journal_page.specs.Stances.{ShowsWellFormed};
 use caa_base::written::entry::{Entry, Object, OutOfMemory, Place};
 use caa_base::written::line::push_word;
 use journal_page::stances::Stance;
-use journal_states::standing::{Lack, Standing};
+use journal_replay::moves::{Lack, Move};
 use journal_states::words::{participant_name, push_place};
 use journal_text::texts::text_writer::{object_name, push_entry};
 use place_plan::plans::plan::Plan;
@@ -44,7 +44,6 @@ fn wait_words(lack: Lack) -> &'static [u8] {
         Lack::Halts => b"waits until all are told, or raise something:",
         Lack::Verdicts => b"waits for the verdicts of",
         Lack::GiveUps => b"waits until all give up:",
-        Lack::Unnamed => b"waits",
     }
 }
 
@@ -77,9 +76,9 @@ pub fn stretch_name(
     requires { ShowsWellFormed plan.now stance.now }
 {
     let mut name = Vec::new(alloc);
-    match stance.standing {
-        Standing::Over => return Ok(None),
-        Standing::Waits(wait) => {
+    match stance.next {
+        Move::Over => return Ok(None),
+        Move::Wait(wait) => {
             name.extend_from_slice(wait_words(wait.lack))?;
             match wait.lack {
                 Lack::Objects | Lack::Object(_) => push_objects(&mut name, plan, stance)?,

@@ -7,5 +7,5 @@ use Rattle.journal_page.proofs.stances.choices_are_well_formed.Goals as goal
 
 pub returns : goal.returns
 returns c =
-    shown_well c.args.states.now.plan.now _ c.args.by c.args.standing.now
+    shown_well c.args.states.now.plan.now _ c.args.by c.args.next.now
     (subst (Holds AllWellFormed) c.plan.ensures c.is_well_formed.ensures) c.args.states.now.legal c.requires

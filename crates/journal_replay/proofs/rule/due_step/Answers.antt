@@ -6,16 +6,6 @@ use Rattle.journal_laws.proofs.PlayablePlan.{is_playable}
 use Rattle.journal_replay.proofs.StepsFit.{register_fits, read_fits, put_object_fits, add_object_fits, added_fits}
 use Rattle.journal_replay.proofs.rule.due_step.Goals as goal
 
-pub value_at-value-requires : goal.value_at-value-requires
-value_at-value-requires g c =
-    let plan = c.args.past.now.plan.now in
-    let next : Some (step.Read c.in-Some-Read.object) ≡ c.args.step = grind arith in
-    record {
-      known =
-          read_fits plan (is_playable plan c.is_closed.ensures)
-          (reverse c.args.past.now.journal.now) c.args.place c.args.by c.in-Some-Read.object (next ∙ c.requires.step);
-    }
-
 pub clamped-value-requires-clause-register : goal.clamped-value-requires-clause-register
 clamped-value-requires-clause-register g c =
     let plan = c.args.past.now.plan.now in
@@ -34,22 +24,22 @@ clamped-value-requires-clause-number g c =
     (reverse c.args.past.now.journal.now) c.args.place c.args.by c.in-Some-Add.object c.in-Some-Add.number
     (next ∙ c.requires.step))
 
-pub due_held-requires-clause-known : goal.due_held-requires-clause-known
-due_held-requires-clause-known g c =
+pub due_read-requires-clause-known : goal.due_read-requires-clause-known
+due_read-requires-clause-known g c =
     let plan = c.args.past.now.plan.now in
     let next : Some (step.Read c.in-Some-Read.object) ≡ c.args.step = grind arith in
     read_fits plan (is_playable plan c.is_closed.ensures)
     (reverse c.args.past.now.journal.now) c.args.place c.args.by c.in-Some-Read.object (next ∙ c.requires.step)
 
-pub due_held-requires-in-Some-Put-clause-known : goal.due_held-requires-in-Some-Put-clause-known
-due_held-requires-in-Some-Put-clause-known g c =
+pub due_write-requires-clause-known : goal.due_write-requires-clause-known
+due_write-requires-clause-known g c =
     let plan = c.args.past.now.plan.now in
     let next : Some (step.Put c.in-Some-Put.object c.in-Some-Put.value) ≡ c.args.step = grind arith in
     put_object_fits plan (is_playable plan c.is_closed.ensures)
     (reverse c.args.past.now.journal.now) c.args.place c.args.by c.in-Some-Put.object c.in-Some-Put.value (next ∙ c.requires.step)
 
-pub due_held-requires-in-Some-Add-clause-known : goal.due_held-requires-in-Some-Add-clause-known
-due_held-requires-in-Some-Add-clause-known g c =
+pub due_write-requires-in-Some-Add-clause-known : goal.due_write-requires-in-Some-Add-clause-known
+due_write-requires-in-Some-Add-clause-known g c =
     let plan = c.args.past.now.plan.now in
     let next : Some (step.Add c.in-Some-Add.object c.in-Some-Add.number) ≡ c.args.step = grind arith in
     add_object_fits plan (is_playable plan c.is_closed.ensures)

@@ -10,6 +10,6 @@ add-requires-clause-may g c =
     let past = reverse hall.journal.entries in
     let done = c.args.done.now in
     let start : to_z w64 (of_z w64 c.from.result) ≡ c.from.result = omega (arith, ints) in
-    subst (MayFollow hall.plan past) (sym c.entry-entry.ensures)
+    subst (MayFollow hall.plan past) (sym c.mixed-entry.ensures)
     (subst (λ r. MayFollow hall.plan past (work_entry c.args.place c.args.by r (to_z w64 (of_z w64 c.from.result)))) (sym c.rounds.ensures)
     (subst (λ f. MayFollow hall.plan past (work_entry c.args.place c.args.by done.rounds f)) (sym (start ∙ c.from.ensures)) c.requires.may))
