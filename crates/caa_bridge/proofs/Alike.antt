@@ -3,15 +3,15 @@ use Rattle.std.proofs.Common.{◌≡◌, ℕ, List, [], ◌∷◌, Option, None,
 use Rattle.line_plant.specs.Devices.{LineDevice, coded, constants_of}
 use Rattle.caa_bridge.specs.Wire.{AreMadeAlike}
 
-first : List (List ℕ) → List ℕ
+abbrev first : List (List ℕ) → List ℕ
 first [] = []
 first (x ∷ xs) = x
 
-rest : List (List ℕ) → List (List ℕ)
+abbrev rest : List (List ℕ) → List (List ℕ)
 rest [] = []
 rest (x ∷ xs) = xs
 
-decoded : List ℕ → Option (List ℕ)
+abbrev decoded : List ℕ → Option (List ℕ)
 decoded [] = None
 decoded (x ∷ xs) = Some xs
 

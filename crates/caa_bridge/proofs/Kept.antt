@@ -7,7 +7,7 @@ use Rattle.caa_commands.specs.declared.finding.Finding.{Finding}
 use Rattle.caa_commands.specs.declared.finding.Finding.TheVariants as finding
 use Rattle.caa_commands.specs.declared.status.Status.{Status}
 use Rattle.caa_commands.specs.OutsideUse.{SinkUse, Left, Call}
-use Rattle.caa_commands.specs.Calls.{CheckComesTo, Prints, DoesNotBegin, AuditComesTo, PlanComesTo, IsNotServed, InputComesTo, IsWorked, IsNotWorked, CellComesTo, CameTo, Answers, with_journal}
+use Rattle.caa_commands.specs.Calls.{CheckComesTo, Prints, DoesNotBegin, AuditComesTo, PlanComesTo, IsNotServed, InputComesTo, IsWorked, IsNotWorked, CellComesTo, CameTo, with_journal}
 use Rattle.caa_commands.specs.Logging.{LogAnswers}
 
 -- the device was made with what it was made with before

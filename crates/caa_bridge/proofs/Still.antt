@@ -1,5 +1,5 @@
 -- What stays still by all that came to it took no put of its journal.
-use Rattle.std.proofs.Common.{◌≡◌, if◌then◌else◌, ℕ, Bool, true, false, ◌&&◌, ◌||◌, not, List, [], ◌∷◌, ◌++◌, Option, None, Some, refl, ap, sym, ◌∙◌, subst}
+use Rattle.std.proofs.Common.{◌≡◌, if◌then◌else◌, ℕ, Bool, true, false, ◌&&◌, ◌||◌, not, List, [], ◌∷◌, ◌++◌, Option, None, Some, refl, ap, ◌∙◌, subst}
 use Rattle.std.specs.List.{list_any}
 use Rattle.caa_base.specs.declared.written.entry.Entry.{Entry}
 use Rattle.caa_base.specs.declared.outside.plant.Asked.{Asked}
@@ -13,7 +13,7 @@ use Rattle.line_plant.specs.GivenUp.{says_failed, StaysStill}
 use Rattle.caa_bridge.specs.Wire.{is_taken, NothingMoves}
 
 -- what came with an entry, before what came later
-with_entry : Bool → Entry → List Asked → List Asked
+abbrev with_entry : Bool → Entry → List Asked → List Asked
 with_entry attempt e later = (if attempt then asked_by e ∷ asked.Entered e ∷ [] else asked.Entered e ∷ []) ++ later
 
 -- where nothing was done, no put was taken
@@ -37,7 +37,7 @@ nothing_moves places (e ∷ later) still =
       by_attempt true still = still.1
       by_attempt false still = still
 
-some_first : Option (List Asked) → List Asked
+abbrev some_first : Option (List Asked) → List Asked
 some_first None = []
 some_first (Some all) = all
 
