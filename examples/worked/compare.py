@@ -1,9 +1,7 @@
 """Audits journals that were worked out by hand, and the same with lines changed, checks scripts that are cut behind each of their
-lines, and plays a script over a device that refuses puts; compares what the program answers. Where the program that asks both
-cores is named, the same plays go through it, and each script of a worked journal by twenty seeds. It also follows each worked
-journal and that of each of these plays, and strays from each journal with an entry that may not come, just at that entry.
+lines, and plays a script over a device that refuses puts; compares what the program answers.
 
-    python3 examples/worked/compare.py PROGRAM [BOTH_CORES]
+    python3 examples/worked/compare.py PROGRAM
 """
 
 import os
@@ -102,9 +100,6 @@ FORBIDDEN = [
     ("withdrawn", {**all_but([16, 17, 18], 18), 17: "outcome 0 outer none"}, 1),
 ]
 
-# The seeds by which each script is played on both cores.
-SEEDS = [str(seed) for seed in range(1, 21)]
-
 # Bytes that are cut off the end of a journal, and the line that is named.
 CUT = [("two_watches", 1, 13), ("two_watches", 4, 13)]
 
@@ -196,12 +191,6 @@ def audited(program, name, changes, cut, wanted):
     return compare(f"audit of {name} with {changes}, {cut} cut", found, answer)
 
 
-# Entries are counted from 0, and the line `journal` stands before them.
-def followed(both_cores, name, changes, wanted):
-    answer = (f"follows {LEGAL[name]} entries\n", 0) if wanted is None else (f"strays at entry {wanted - 1}\n", 7)
-    return compare(f"both cores along {name} with {changes}", answer_of(both_cores, ["follow"], spoiled(name, changes)), answer)
-
-
 def checked(program, name, kept):
     text = "".join(line + "\n" for line in parts_of(name)[0][:kept])
     counts = CUT_SCRIPTS[name].get(kept)
@@ -212,15 +201,12 @@ def checked(program, name, kept):
     return compare(f"check of {name}, cut behind line {kept}", answer_of(program, ["check"], text), answer)
 
 
-def undone(puts):
-    return UNDONE.format(drills="".join(f"drill x {put}\n" for put in puts))
-
-
 def played(program, puts, entries, outer, inner, restores, value):
-    text, status = answer_of(program, ["sim", "1"], undone(puts))
+    script = UNDONE.format(drills="".join(f"drill x {put}\n" for put in puts))
+    text, status = answer_of(program, ["sim", "1"], script)
     lines = text.splitlines()
     found = (
-        entries_of(text),
+        sum(line.split()[0] not in ("journal", "object", "outcome") for line in lines),
         [line for line in lines if line.split()[0] in ("restore", "end", "object")],
         status,
     )
@@ -233,34 +219,12 @@ def played(program, puts, entries, outer, inner, restores, value):
     return compare(f"sim with the refused puts {puts}", found, wanted)
 
 
-def played_on_both(program, both_cores, puts, entries, *_):
-    script = undone(puts)
-    journal = answer_of(program, ["sim", "1"], script)[0]
-    found = (answer_of(both_cores, ["1"], script), answer_of(both_cores, ["follow"], script + journal))
-    wanted = ((f"same {entries} entries\n", 0), (f"follows {entries} entries\n", 0))
-    return compare(f"both cores with the refused puts {puts}", found, wanted)
-
-
-def entries_of(text):
-    return sum(line.split()[0] not in ("journal", "object", "outcome") for line in text.splitlines())
-
-
-def same_on_both(program, both_cores, name, seed):
-    script = "".join(line + "\n" for line in parts_of(name)[0])
-    entries = entries_of(answer_of(program, ["sim", seed], script)[0])
-    return compare(f"both cores on {name} with the seed {seed}", answer_of(both_cores, [seed], script), (f"same {entries} entries\n", 0))
-
-
-def main(program, *both_cores):
+def main(program):
     legal = [(name, {}, None) for name in LEGAL]
     answers = [audited(program, name, changes, 0, wanted) for name, changes, wanted in legal + CHANGED + FORBIDDEN]
     answers += [audited(program, name, {}, cut, wanted) for name, cut, wanted in CUT]
     answers += [checked(program, name, kept) for name in CUT_SCRIPTS for kept in range(len(parts_of(name)[0]) + 1)]
     answers += [played(program, *row) for row in REFUSED]
-    for path in both_cores:
-        answers += [played_on_both(program, path, *row) for row in REFUSED]
-        answers += [same_on_both(program, path, name, seed) for name in LEGAL for seed in SEEDS]
-        answers += [followed(path, *row) for row in legal + FORBIDDEN]
     wrong = sum(answers)
     print(f"worked journals: {len(answers) - wrong} of {len(answers)} as wanted")
     return 1 if wrong else 0
