@@ -44,7 +44,9 @@ fn read_file(rt: &(impl Files + AllocGlobal), path: &str) -> Result<Vec<u8>, Rea
     }
 }
 
-/// A status with a text that is always the same, behind the name of the input.
+/// A status with a text that is always the same, behind the name of the input. No call of it is laid out in place, so each text stands
+/// whole in the program, where a build can set the commit of the version.
+#[inline(never)]
 fn told(alloc: Global, status: Status, file: &str, text: &[u8]) -> Shown {
     let mut told = Vec::new(alloc);
     let name = told.extend_from_slice(file.as_bytes());
