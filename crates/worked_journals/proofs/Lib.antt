@@ -14,6 +14,8 @@ pub mod OrdinaryUse
 pub mod PutFailsInHandler
 pub mod RaisedWhileUndoing
 pub mod RestoreFails
+pub mod RaisedAfterGivingUp
+pub mod WorkedSpots
 pub mod SameExceptionTwice
 pub mod SaturatingAdd
 pub mod TestsDecide
