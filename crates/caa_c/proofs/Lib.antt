@@ -1,0 +1,4 @@
+pub mod AsBox
+pub mod Compiling
+pub mod Nulls
+pub mod Reversed

@@ -1,0 +1,7 @@
+pub mod inner
+pub mod Codes
+pub mod Handed
+pub mod Machines
+pub mod Opened
+pub mod Sizes
+pub mod Steps
