@@ -1,0 +1,6 @@
+mod DeclaredMore
+mod ScopeSteps
+mod Meant
+mod Found
+mod InOrder
+mod Alike

@@ -1,0 +1,4 @@
+-- What the code keeps and finds its answers by: no contract of a public call cites it.
+pub mod DeclaredWords
+pub mod Scopes
+pub mod Found
