@@ -55,7 +55,7 @@ fn tell_illegal(
 ) -> Result<Vec<u8>, OutOfMemory> {
     let mut page = Page::new(alloc, &[]);
     tell_line(input, line_of(input, index), &mut page)?;
-    let lines = Lines::of(alloc, scene.script)?;
+    let lines = Lines::of(alloc, scene.script, scene.plan)?;
     let states = states_at(alloc, scene.plan, journal, index)?;
     match journal.as_slice().get(index as usize) {
         Some(entry) => tell_entry(alloc, &states, &lines, entry, &mut page)?,
@@ -103,7 +103,7 @@ fn tell_cut(
     let mut page = Page::new(alloc, &[]);
     tell_line(input, line_of(input, journal.len()), &mut page)?;
     page.note(&[Piece::Text(words_of(way))])?;
-    let lines = Lines::of(alloc, scene.script)?;
+    let lines = Lines::of(alloc, scene.script, scene.plan)?;
     let states = states_at(alloc, scene.plan, journal, journal.len())?;
     tell_all(alloc, &states, &lines, None, &mut page)?;
     tell_values(alloc, &states, &mut page)?;

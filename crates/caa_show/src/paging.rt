@@ -9,24 +9,16 @@ use crate::lines::Lines;
 use crate::showing::{Shown, Status, show_plan, with_status};
 use crate::words::View;
 use action_script::words::journal_start::JournalStart;
-use caa_base::written::entry::{OutOfMemory, Participant};
+use caa_base::written::entry::OutOfMemory;
 use caa_base::written::journal::Journal;
 use caa_base::written::limits::MOST_AUDITED;
-use journal_page::stances::Lines as LinesOfScript;
 use journal_states::fronts::read_front;
-use journal_states::spots::Spot;
 use journal_trace::trace::trace;
 use place_plan::plans::plan::Plan;
 use script_checker::own_names::has_own_names;
 use script_pages::paging::{Subject, journal_page_of, refused_page};
 use script_views::explaining::{Seen, look};
 use std::alloc::Global;
-
-impl<'a> LinesOfScript for Lines<'a> {
-    fn line_of(&self, plan: &Plan, by: Participant, spot: &Spot) -> u32 {
-        Lines::line_of(self, plan, by, spot).unwrap_or(0)
-    }
-}
 
 /// The entries of what stands behind a script, as far as they can be read.
 fn entries_behind(
@@ -64,7 +56,7 @@ fn show_scene(
         told: &told.text,
     };
     let journal = entries_behind(alloc, scene.plan, bytes, start)?;
-    let lines = Lines::of(alloc, scene.script)?;
+    let lines = Lines::of(alloc, scene.script, scene.plan)?;
     let text = journal_page_of(
         alloc,
         &subject,
@@ -109,6 +101,6 @@ pub fn show_page(
 pub fn draw_trace(alloc: Global, scene: &Scene, journal: &Journal) -> Result<Vec<u8>, OutOfMemory>
     requires { AllWellFormed scene.now.plan.now journal.now.entries }
 {
-    let lines = Lines::of(alloc, scene.script)?;
+    let lines = Lines::of(alloc, scene.script, scene.plan)?;
     trace(alloc, &lines, scene.plan, journal.as_slice())
 }

@@ -168,7 +168,7 @@ pub fn tell_moments(
     moments: Moments,
 ) -> Result<Vec<u8>, OutOfMemory> {
     let mut page = Page::new(alloc, &[]);
-    let lines = Lines::of(alloc, scene.script)?;
+    let lines = Lines::of(alloc, scene.script, scene.plan)?;
     let mut states = states_at(alloc, scene.plan, journal, moments.first)?;
     tell_moment(alloc, &states, &lines, journal.len(), &mut page)?;
     for _ in 1..moments.count {
