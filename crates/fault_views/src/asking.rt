@@ -44,10 +44,7 @@ fn off_objects(
 
 /// Whether an `add` step of a body or a handler writes an object.
 fn adds_to(program: &Program, object: Object) -> bool {
-    program
-        .steps
-        .iter()
-        .any(|step| matches!(step, Step::Add(added, _) if *added == object))
+    program.steps.iter().any(|step| matches!(step, Step::Add(added, _) if *added == object))
 }
 
 /// Whether an `add` step of an action writes an object.

@@ -568,12 +568,8 @@ impl<'a> FaultTelling<'a> {
 
     /// Whether places of an action were resolved to an exception.
     fn was_resolved(&self, action: u32, exception: Exception) -> bool {
-        self.trial
-            .findings
-            .counts
-            .resolved
-            .iter()
-            .any(|began| began.action == action && began.exception == exception)
+        self.trial.findings.counts.resolved.iter().any(|began| began.action == action
+            && began.exception == exception)
     }
 
     /// Whether a play unfolds to places of an action.

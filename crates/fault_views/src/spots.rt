@@ -26,7 +26,8 @@ pub fn line_of(names: &PlanNames, spot: Spot) -> u32 {
         role,
         handler,
         step,
-    } = spot else {
+    } = spot
+    else {
         return 0;
     };
     match names.lines.program(action, role, handler) {

@@ -3,9 +3,9 @@
 ghost use Rattle.std.specs.Prelude.{◌≤◌, IfOk, IfSome};
 ghost use Rattle.place_plan.specs.RulesOfJournals.WellFormed.{AllWellFormed};
 
+use crate::plan_names::PlanNames;
 use crate::playing_page::playing_text;
 use crate::rehearsal_page::Telling;
-use crate::plan_names::PlanNames;
 use action_script::forms::script::Script;
 use action_script::words::word::natural_of;
 use caa_base::written::entry::{Drill, Object, OutOfMemory};

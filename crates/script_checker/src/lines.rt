@@ -1,6 +1,6 @@
 //! On which line of a script each part of its plan is declared.
 
-ghost use Rattle.std.specs.Prelude.{◌≡◌, ◌<◌, ◌^◌, length, map, IfOk, option_copied};
+ghost use Rattle.std.specs.Prelude.{◌≡◌, ◌<◌, ◌^◌, length, map, slice_get, IfOk, option_copied};
 ghost use Rattle.action_script.specs.Words.NumberedNames.{number_in};
 ghost use Rattle.place_plan.specs.Plans.Places.{exception_name};
 ghost use Rattle.script_checker.specs.LinesOfPlan.{declares, from_first, is_end, up_to_end, first_number, step_numbers, program_lines, handler_lines, role_lines, use_line, lines_in, action_lines, lines_of, last_line, line_after, handler_in, program_of, program_at};
@@ -186,7 +186,9 @@ fn handler_lines(
     requires { length subject.now.names.now < 2 ^ 32 }
     ensures { IfOk result (λ lines. lines ≡ handler_lines subject.now.names.now (exception_name subject.now.plan.now subject.now.internal) subject.now.block.now role handler.now) }
 {
-    let name = subject.plan.exception_name(subject.internal, handler.exception);
+    let name = subject
+        .plan
+        .exception_name(subject.internal, handler.exception);
     let heading = Heading::Handler(role, number_in(subject.names, name));
     Ok(HandlerLines {
         exception: handler.exception,
@@ -367,7 +369,9 @@ impl RoleLines {
 
 impl Lines {
     /// The lines of the action of this number.
-    pub fn action(&self, action: u32) -> Option<&ActionLines> {
+    pub fn action(&self, action: u32) -> Option<&ActionLines>
+        ensures { option_copied result ≡ slice_get self.now.actions action }
+    {
         self.actions.as_slice().get(action as usize)
     }
 
