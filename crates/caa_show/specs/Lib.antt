@@ -1,2 +1,3 @@
 pub mod Interlocks
+pub mod LinesOfSpots
 pub mod Read

@@ -4,11 +4,9 @@ ghost use Rattle.std.specs.Prelude.{◌≡◌, true};
 ghost use Rattle.journal_text.specs.Texts.Naming.{is_well_named};
 ghost use Rattle.journal_text.specs.Watching.Looks.{AreOfPlan};
 
-use crate::lines::Lines;
 use crate::reading::{Break, Input, tell_line};
 use crate::whereabouts::{states_at, tell_all, tell_standing};
 use action_core::audit_fast;
-use action_script::forms::script::Script;
 use caa_base::written::entry::{Entry, Object, OutOfMemory, Participant};
 use caa_base::written::journal::Journal;
 use caa_base::written::line::push_value;
@@ -19,6 +17,7 @@ use journal_text::looks::right::first_wrong;
 use journal_text::looks::seens::Seens;
 use journal_text::texts::text_writer::object_name;
 use place_plan::plans::plan::Plan;
+use script_checker::lines::Lines;
 use script_views::page::{Page, Piece};
 use std::alloc::Global;
 
@@ -31,11 +30,11 @@ pub enum Judged {
     Illegal(Vec<u8>),
 }
 
-/// An accepted script, and the plan of it.
+/// The plan of a script, and where the script declares its parts.
 #[derive(Clone, Copy)]
 pub struct Scene<'a> {
-    pub script: &'a Script,
     pub plan: &'a Plan,
+    pub lines: &'a Lines,
 }
 
 /// The line of an entry of the journal, counted from 0, in the whole input.
@@ -55,13 +54,12 @@ fn tell_illegal(
 ) -> Result<Vec<u8>, OutOfMemory> {
     let mut page = Page::new(alloc, &[]);
     tell_line(input, line_of(input, index), &mut page)?;
-    let lines = Lines::of(alloc, scene.script)?;
     let states = states_at(alloc, scene.plan, journal, index)?;
     match journal.as_slice().get(index as usize) {
-        Some(entry) => tell_entry(alloc, &states, &lines, entry, &mut page)?,
+        Some(entry) => tell_entry(alloc, &states, scene.lines, entry, &mut page)?,
         None => {
             page.note(&[Piece::Text("the journal stops here, and isn't complete")])?;
-            tell_all(alloc, &states, &lines, None, &mut page)?;
+            tell_all(alloc, &states, scene.lines, None, &mut page)?;
         }
     }
     Ok(page.into_text())
@@ -103,9 +101,8 @@ fn tell_cut(
     let mut page = Page::new(alloc, &[]);
     tell_line(input, line_of(input, journal.len()), &mut page)?;
     page.note(&[Piece::Text(words_of(way))])?;
-    let lines = Lines::of(alloc, scene.script)?;
     let states = states_at(alloc, scene.plan, journal, journal.len())?;
-    tell_all(alloc, &states, &lines, None, &mut page)?;
+    tell_all(alloc, &states, scene.lines, None, &mut page)?;
     tell_values(alloc, &states, &mut page)?;
     tell_puts(alloc, &states, &mut page)?;
     Ok(page.into_text())

@@ -5,28 +5,22 @@ ghost use Rattle.place_plan.specs.RulesOfJournals.WellFormed.{AllWellFormed};
 ghost use Rattle.journal_text.specs.Texts.Naming.{is_well_named};
 
 use crate::judging::Scene;
-use crate::lines::Lines;
+use crate::lines::PageLines;
 use crate::showing::{Shown, Status, show_plan, with_status};
 use crate::words::View;
+use action_script::forms::script::Script;
 use action_script::words::journal_start::JournalStart;
-use caa_base::written::entry::{OutOfMemory, Participant};
+use caa_base::written::entry::OutOfMemory;
 use caa_base::written::journal::Journal;
 use caa_base::written::limits::MOST_AUDITED;
-use journal_page::stances::Lines as LinesOfScript;
 use journal_states::fronts::read_front;
-use journal_states::spots::Spot;
 use journal_trace::trace::trace;
 use place_plan::plans::plan::Plan;
+use script_checker::lines::lines_of;
 use script_checker::own_names::has_own_names;
 use script_pages::paging::{Subject, journal_page_of, refused_page};
 use script_views::explaining::{Seen, look};
 use std::alloc::Global;
-
-impl<'a> LinesOfScript for Lines<'a> {
-    fn line_of(&self, plan: &Plan, by: Participant, spot: &Spot) -> u32 {
-        Lines::line_of(self, plan, by, spot).unwrap_or(0)
-    }
-}
 
 /// The entries of what stands behind a script, as far as they can be read.
 fn entries_behind(
@@ -49,6 +43,7 @@ fn entries_behind(
 /// The page of a script that isn't refused, with the journal behind it. The status is that of `explain`.
 fn show_scene(
     alloc: Global,
+    script: &Script,
     scene: &Scene,
     file: &[u8],
     bytes: &[u8],
@@ -64,11 +59,11 @@ fn show_scene(
         told: &told.text,
     };
     let journal = entries_behind(alloc, scene.plan, bytes, start)?;
-    let lines = Lines::of(alloc, scene.script)?;
+    let lines = PageLines { lines: scene.lines };
     let text = journal_page_of(
         alloc,
         &subject,
-        scene.script,
+        script,
         scene.plan,
         &lines,
         journal.as_slice(),
@@ -87,11 +82,12 @@ pub fn show_page(
     match look(alloc, file, script_text)? {
         Seen::Accepted(script, plan) => {
             has_own_names(&script, &plan);
+            let lines = lines_of(alloc, &script, &plan)?;
             let scene = Scene {
-                script: &script,
                 plan: &plan,
+                lines: &lines,
             };
-            show_scene(alloc, &scene, file, bytes, script_text, start)
+            show_scene(alloc, &script, &scene, file, bytes, script_text, start)
         }
         Seen::Refused(refusal) => {
             let subject = Subject {
@@ -109,6 +105,6 @@ pub fn show_page(
 pub fn draw_trace(alloc: Global, scene: &Scene, journal: &Journal) -> Result<Vec<u8>, OutOfMemory>
     requires { AllWellFormed scene.now.plan.now journal.now.entries }
 {
-    let lines = Lines::of(alloc, scene.script)?;
+    let lines = PageLines { lines: scene.lines };
     trace(alloc, &lines, scene.plan, journal.as_slice())
 }

@@ -9,6 +9,7 @@ use fault_trials::trials::Progress;
 use fault_views::asking::{FaultsTold, show_faults};
 use place_plan::plans::plan::Plan;
 use rehearsal_views::asking::{Told, show_playing, show_rehearsal};
+use script_checker::lines::{Lines, lines_of};
 use script_views::explaining::{Seen, look};
 use script_views::page::{Page, Piece};
 use std::alloc::Global;
@@ -114,14 +115,18 @@ fn show_script<P: Progress>(
     text: &[u8],
     progress: &mut P,
 ) -> Result<Shown, OutOfMemory> {
-    let Played { script, plan } = scene;
+    let Played {
+        script,
+        lines,
+        plan,
+    } = scene;
     match call.view {
         PlayView::Rehearse => {
-            let told = show_rehearsal(alloc, &script, plan, file, call.words)?;
+            let told = show_rehearsal(alloc, &script, &lines, plan, file, call.words)?;
             shown_of(alloc, file, told)
         }
         PlayView::Faults => {
-            let told = show_faults(alloc, &script, plan, file, call.words, progress)?;
+            let told = show_faults(alloc, &script, &lines, plan, file, call.words, progress)?;
             shown_faults(alloc, file, told)
         }
         PlayView::Playing => {
@@ -131,10 +136,11 @@ fn show_script<P: Progress>(
     }
 }
 
-/// A script that is played, with its plan.
+/// A script that is played, with its plan, and where it declares the parts of that.
 #[derive(Drop)]
 struct Played {
     script: Script,
+    lines: Lines,
     plan: Plan,
 }
 
@@ -149,14 +155,15 @@ pub fn show_plays<P: Progress>(
     let start = find_journal(bytes);
     let text = bytes.get(..start.offset).unwrap_or(bytes);
     match look(alloc, file, text)? {
-        Seen::Accepted(script, plan) => show_script(
-            alloc,
-            call,
-            Played { script, plan },
-            file,
-            text,
-            progress,
-        ),
+        Seen::Accepted(script, plan) => {
+            let lines = lines_of(alloc, &script, &plan)?;
+            let scene = Played {
+                script,
+                lines,
+                plan,
+            };
+            show_script(alloc, call, scene, file, text, progress)
+        }
         Seen::Refused(refusal) => Ok(with_status(Status::Refused, refusal.text)),
     }
 }

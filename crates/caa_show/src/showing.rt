@@ -18,6 +18,7 @@ use journal_pictures::chart::chart;
 use journal_pictures::story::story;
 use journal_text::looks::seens::Seens;
 use place_plan::plans::plan::Plan;
+use script_checker::lines::lines_of;
 use script_checker::own_names::has_own_names;
 use script_outcomes::table::tables;
 use script_views::characters::tell_nothing;
@@ -283,9 +284,10 @@ pub fn show(alloc: Global, view: View, file: &[u8], bytes: &[u8]) -> Result<Show
         | View::Page
         | View::Trace => {
             has_own_names(&script, &plan);
+            let lines = lines_of(alloc, &script, &plan)?;
             let scene = Scene {
-                script: &script,
                 plan: &plan,
+                lines: &lines,
             };
             show_plan(alloc, view, &scene, file, bytes, start)
         }

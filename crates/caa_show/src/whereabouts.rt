@@ -1,7 +1,7 @@
 //! Where everybody stands, and what the rules allow each.
 
 use crate::judging::Scene;
-use crate::lines::Lines;
+use crate::lines::line_of;
 use crate::words::Moments;
 use caa_base::written::entry::{Entry, OutOfMemory, Participant};
 use caa_base::written::journal::Journal;
@@ -12,6 +12,7 @@ use journal_text::looks::seens::Seens;
 use journal_text::texts::text_writer::write;
 use place_plan::plans::plan::Plan;
 use place_plan::rules::well_formed::is_well_formed;
+use script_checker::lines::Lines;
 use script_views::page::{Page, Piece};
 use script_views::source::line_at;
 use std::alloc::Global;
@@ -68,7 +69,7 @@ fn tell_spot(
         Piece::Text(" "),
         Piece::Word(plan.action_name(spot.place)),
     ])?;
-    match lines.line_of(plan, by, &spot) {
+    match line_of(lines, plan, by, &spot) {
         Some(line) => page.say(&[Piece::Text(", line "), Piece::Number(u64::from(line))]),
         None => Ok(()),
     }
@@ -168,14 +169,13 @@ pub fn tell_moments(
     moments: Moments,
 ) -> Result<Vec<u8>, OutOfMemory> {
     let mut page = Page::new(alloc, &[]);
-    let lines = Lines::of(alloc, scene.script)?;
     let mut states = states_at(alloc, scene.plan, journal, moments.first)?;
-    tell_moment(alloc, &states, &lines, journal.len(), &mut page)?;
+    tell_moment(alloc, &states, scene.lines, journal.len(), &mut page)?;
     for _ in 1..moments.count {
         if !states.step() {
             break;
         }
-        tell_moment(alloc, &states, &lines, journal.len(), &mut page)?;
+        tell_moment(alloc, &states, scene.lines, journal.len(), &mut page)?;
     }
     if (states.taken() as u64) < journal.len() && states.is_at_end() {
         page.say(&[Piece::Text("the next entry may not come by the rules\n")])?;

@@ -2,15 +2,15 @@
 
 use crate::fault_page::{FaultTelling, has_bad_row};
 use crate::rows::rows_of;
-use action_script::forms::form::Form;
 use action_script::forms::script::Script;
 use caa_base::written::entry::{Object, OutOfMemory};
-use caa_base::written::name::name_at;
 use fault_trials::trials::{Progress, Question, Trial, try_faults};
 use fault_trials::try_error::TryError;
+use place_plan::drafts::draft_rows::{ActionRow, Program, Step};
 use place_plan::plans::plan::Plan;
 use rehearsal_views::asking::{Told, count_of, most_schedules, object_of};
-use rehearsal_views::script_names::Book;
+use rehearsal_views::plan_names::PlanNames;
+use script_checker::lines::Lines;
 use script_outcomes::outlooks::outlooks;
 use std::alloc::Global;
 
@@ -42,23 +42,31 @@ fn off_objects(
     Ok(Some(objects))
 }
 
-/// Whether a script has an `add` step for an object of this name.
-fn is_added(script: &Script, name: &[u8]) -> bool {
-    script.lines().iter().any(|line| match &line.form {
-        Form::AddStep(added, _) => name_at(script.names(), *added) == name,
-        _ => false,
+/// Whether an `add` step of a body or a handler writes an object.
+fn adds_to(program: &Program, object: Object) -> bool {
+    program.steps.iter().any(|step| matches!(step, Step::Add(added, _) if *added == object))
+}
+
+/// Whether an `add` step of an action writes an object.
+fn is_added_in(action: &ActionRow, object: Object) -> bool {
+    action.roles.iter().any(|role| {
+        adds_to(&role.body, object)
+            || role
+                .handlers
+                .iter()
+                .any(|handler| adds_to(&handler.program, object))
     })
 }
 
 /// The objects that an `add` step writes.
-fn counted_objects(
-    alloc: Global,
-    script: &Script,
-    plan: &Plan,
-) -> Result<Vec<Object>, OutOfMemory> {
+fn counted_objects(alloc: Global, plan: &Plan) -> Result<Vec<Object>, OutOfMemory> {
     let mut counted = Vec::new(alloc);
     for object in 0..plan.objects() {
-        if is_added(script, plan.object_name(object)) {
+        if plan
+            .action_rows()
+            .iter()
+            .any(|action| is_added_in(action, object))
+        {
             counted.push(object)?;
         }
     }
@@ -135,6 +143,7 @@ pub enum FaultsTold {
 fn table_text(
     alloc: Global,
     script: &Script,
+    lines: &Lines,
     plan: &Plan,
     trial: &Trial,
     file: &[u8],
@@ -143,7 +152,8 @@ fn table_text(
     let outlooks = outlooks(alloc, script, plan)?;
     let rows = rows_of(alloc, &trial.findings)?;
     let telling = FaultTelling {
-        book: Book { script, plan },
+        names: script.names(),
+        parts: PlanNames { plan, lines },
         trial,
         rows: &rows,
         outlooks: &outlooks,
@@ -159,13 +169,14 @@ fn table_text(
 fn told_of(
     alloc: Global,
     script: &Script,
+    lines: &Lines,
     plan: &Plan,
     trial: &Trial,
     file: &[u8],
     as_csv: bool,
 ) -> Result<FaultsTold, OutOfMemory> {
     Ok(FaultsTold::Told(Told::Page {
-        text: table_text(alloc, script, plan, trial, file, as_csv)?,
+        text: table_text(alloc, script, lines, plan, trial, file, as_csv)?,
         is_bad: has_bad_row(plan, trial),
     }))
 }
@@ -174,6 +185,7 @@ fn told_of(
 pub fn show_faults<P: Progress>(
     alloc: Global,
     script: &Script,
+    lines: &Lines,
     plan: Plan,
     file: &[u8],
     words: &[String],
@@ -195,11 +207,11 @@ pub fn show_faults<P: Progress>(
     let question = Question {
         schedules,
         off,
-        counted: counted_objects(alloc, script, &plan)?,
+        counted: counted_objects(alloc, &plan)?,
         has_pairs,
     };
     match try_faults(alloc, plan, question, progress) {
-        Ok((plan, trial)) => told_of(alloc, script, &plan, &trial, file, as_csv),
+        Ok((plan, trial)) => told_of(alloc, script, lines, &plan, &trial, file, as_csv),
         Err(TryError::OutOfMemory) => Err(OutOfMemory),
         Err(TryError::TooMany { most }) => Ok(FaultsTold::Told(Told::TooMany {
             most: u64::from(most),

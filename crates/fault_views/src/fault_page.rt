@@ -4,15 +4,15 @@ use crate::rows::{FaultRow, Seen};
 use crate::spots::{line_of, say_item};
 use crate::tables::Table;
 use caa_base::written::entry::{Drill, Exception, Object, OutOfMemory, Outcome};
+use caa_base::written::name::Name;
 use fault_trials::effects::{Effect, Raised, Resolution, Standing};
 use fault_trials::modes::{Class, Example, Mode, Spot, Tried, rank_of};
 use fault_trials::puts::action_number;
 use fault_trials::trials::{Began, Trial};
 use place_plan::plans::plan::Plan;
-use rehearsal_views::script_names::{Book, say_value};
+use rehearsal_views::plan_names::{PlanNames, say_value};
 use rehearsals::paths::number_of;
 use script_outcomes::outlooks::{Outlook, Row};
-use script_views::looking::roles_of;
 use script_views::page::{Page, Piece};
 use std::alloc::Global;
 
@@ -41,7 +41,9 @@ fn mode_word(mode: Mode) -> &'static str {
 /// The tries of a script, with its names and what its text tells of each action, in their order.
 #[derive(Clone, Copy)]
 pub struct FaultTelling<'a> {
-    pub book: Book<'a>,
+    /// The names of the script.
+    pub names: &'a [Name],
+    pub parts: PlanNames<'a>,
     pub trial: &'a Trial,
     pub rows: &'a [FaultRow<'a>],
     pub outlooks: &'a [Outlook],
@@ -260,7 +262,7 @@ pub fn has_bad_row(plan: &Plan, trial: &Trial) -> bool {
 
 impl<'a> FaultTelling<'a> {
     fn new_page(&self, alloc: Global) -> Page<'a> {
-        Page::new(alloc, self.book.script.names())
+        Page::new(alloc, self.names)
     }
 
     /// The rows in the order of their lines.
@@ -268,7 +270,7 @@ impl<'a> FaultTelling<'a> {
         let mut keys: Vec<Ranked> = Vec::new(alloc);
         for (index, row) in self.rows.iter().enumerate() {
             let key = match row.spot {
-                Spot::Step { .. } => (0, line_of(&self.book, row.spot), 0, number_of(index)),
+                Spot::Step { .. } => (0, line_of(&self.parts, row.spot), 0, number_of(index)),
                 Spot::Back { action, object } => (1, action, object, number_of(index)),
             };
             keys.push(key)?;
@@ -283,9 +285,9 @@ impl<'a> FaultTelling<'a> {
 
     /// Says what is refused, with the action that it is of.
     pub fn say_title(&self, page: &mut Page, spot: Spot) -> Result<(), OutOfMemory> {
-        self.book.say_action(page, action_of(spot))?;
+        self.parts.say_action(page, action_of(spot))?;
         page.say(&[Piece::Text(": ")])?;
-        say_item(&self.book, page, spot)
+        say_item(&self.parts, page, spot)
     }
 
     fn say_raised(&self, page: &mut Page, spot: Spot, raised: Raised) -> Result<(), OutOfMemory> {
@@ -293,7 +295,7 @@ impl<'a> FaultTelling<'a> {
             Raised::Nothing => page.say(&[Piece::Text("-")]),
             Raised::Undo => page.say(&[Piece::Text("(undo)")]),
             Raised::Fault(exception) => {
-                page.name(self.book.internal_name(action_of(spot), exception))
+                page.show(self.parts.internal_name(action_of(spot), exception))
             }
         }
     }
@@ -306,8 +308,8 @@ impl<'a> FaultTelling<'a> {
             if index > 0 {
                 page.say(&[Piece::Text(" > ")])?;
             }
-            page.name(
-                self.book
+            page.show(
+                self.parts
                     .internal_name(resolution.action, resolution.exception),
             )?;
         }
@@ -321,7 +323,7 @@ impl<'a> FaultTelling<'a> {
         outcome: Option<Outcome>,
     ) -> Result<(), OutOfMemory> {
         match outcome {
-            Some(outcome) => self.book.say_outcome(page, play_action, outcome),
+            Some(outcome) => self.parts.say_outcome(page, play_action, outcome),
             None => page.say(&[Piece::Text("none")]),
         }
     }
@@ -383,7 +385,7 @@ impl<'a> FaultTelling<'a> {
             if index > 0 {
                 page.say(&[Piece::Text(between)])?;
             }
-            self.book.say_object(page, standing.object)?;
+            self.parts.say_object(page, standing.object)?;
             page.say(&[Piece::Text(is)])?;
             say_value(page, standing.value)?;
         }
@@ -404,7 +406,7 @@ impl<'a> FaultTelling<'a> {
         };
         let effect = seen.effect;
         let mut page = self.new_page(alloc);
-        let line = line_of(&self.book, row.spot);
+        let line = line_of(&self.parts, row.spot);
         if is_first && line > 0 {
             page.number(u64::from(line))?;
         }
@@ -497,7 +499,7 @@ impl<'a> FaultTelling<'a> {
 
     /// Says where a spot stands: its line, or what is set back.
     pub fn say_where(&self, page: &mut Page, spot: Spot) -> Result<(), OutOfMemory> {
-        let line = line_of(&self.book, spot);
+        let line = line_of(&self.parts, spot);
         if line > 0 {
             page.number(u64::from(line))
         } else {
@@ -564,24 +566,22 @@ impl<'a> FaultTelling<'a> {
         Ok(())
     }
 
-    /// Whether places of an action were resolved to an exception, by its name.
-    fn was_resolved(&self, action: u32, exception: u32) -> bool {
+    /// Whether places of an action were resolved to an exception.
+    fn was_resolved(&self, action: u32, exception: Exception) -> bool {
         self.trial.findings.counts.resolved.iter().any(|began| began.action == action
-            && self.book.internal_name(action, began.exception) == exception)
+            && began.exception == exception)
     }
 
     /// Whether a play unfolds to places of an action.
     fn is_played(&self, action: u32) -> bool {
-        (0..self.book.plan.places()).any(|place| self.book.action_of(place) == action)
+        (0..self.parts.plan.places()).any(|place| self.parts.action_of(place) == action)
     }
 
     /// Whether the handlers of an action for an exception are to be told: no playing began them, and they can be, or can't.
-    fn is_idle(&self, action: u32, row: &Row, may_come: bool) -> bool {
+    fn is_idle(&self, action: u32, exception: Exception, row: &Row, may_come: bool) -> bool {
         row.can_come == may_come
-            && !self.was_resolved(action, row.exception)
-            && roles_of(self.book.action(action))
-                .iter()
-                .any(|role| self.book.handles(action, *role, row.exception))
+            && !self.was_resolved(action, exception)
+            && self.parts.is_handled(action, exception)
     }
 
     /// Says the exceptions of an action whose handlers no playing began, of those that can be or of those that can't.
@@ -594,11 +594,15 @@ impl<'a> FaultTelling<'a> {
         has_any: bool,
     ) -> Result<bool, OutOfMemory> {
         let mut has_any = has_any;
-        for row in outlook.rows.iter() {
-            if self.is_idle(action, row, may_come) {
+        for (index, row) in outlook.rows.iter().enumerate() {
+            let exception = number_of(index);
+            if self.is_idle(action, exception, row, may_come) {
                 page.say(&[Piece::Text(if has_any { ", " } else { " " })])?;
-                self.book.say_action(page, action)?;
-                page.say(&[Piece::Text(": "), Piece::Named(row.exception)])?;
+                self.parts.say_action(page, action)?;
+                page.say(&[
+                    Piece::Text(": "),
+                    Piece::Word(self.parts.internal_name(action, exception)),
+                ])?;
                 has_any = true;
             }
         }
@@ -632,7 +636,7 @@ impl<'a> FaultTelling<'a> {
     }
 
     fn say_drill(&self, page: &mut Page, drill: Drill) -> Result<(), OutOfMemory> {
-        self.book.say_object(page, drill.object)?;
+        self.parts.say_object(page, drill.object)?;
         page.say(&[Piece::Text(" "), Piece::Number(u64::from(drill.nth))])
     }
 
@@ -690,17 +694,17 @@ impl<'a> FaultTelling<'a> {
     fn say_csv_row(&self, page: &mut Page, row: &FaultRow, seen: &Seen) -> Result<(), OutOfMemory> {
         let spot = seen.second.unwrap_or(row.spot);
         let effect = seen.effect;
-        let line = line_of(&self.book, row.spot);
+        let line = line_of(&self.parts, row.spot);
         if line > 0 {
             page.number(u64::from(line))?;
         }
         page.say(&[Piece::Text(",")])?;
-        say_item(&self.book, page, row.spot)?;
+        say_item(&self.parts, page, row.spot)?;
         page.say(&[Piece::Text(",")])?;
-        self.book.say_action(page, action_of(row.spot))?;
+        self.parts.say_action(page, action_of(row.spot))?;
         page.say(&[Piece::Text(",")])?;
         if let Spot::Step { action, role, .. } = row.spot {
-            self.book.say_role(page, action, role)?;
+            self.parts.say_role(page, action, role)?;
         }
         page.say(&[
             Piece::Text(","),

@@ -38,9 +38,9 @@ impl<'a> FaultTelling<'a> {
         for crossing in &self.trial.findings.counts.backs.crossings {
             if crossing.action == action && told < MOST_CROSSINGS {
                 page.say(&[Piece::Text(if told > 0 { ", " } else { ": " })])?;
-                self.book.say_object(page, crossing.first)?;
+                self.parts.say_object(page, crossing.first)?;
                 page.say(&[Piece::Text(" before ")])?;
-                self.book.say_object(page, crossing.second)?;
+                self.parts.say_object(page, crossing.second)?;
                 told = told.saturating_add(1);
             }
         }
@@ -53,7 +53,7 @@ impl<'a> FaultTelling<'a> {
         if count == 0 {
             return Ok(());
         }
-        self.book.say_action(page, action)?;
+        self.parts.say_action(page, action)?;
         page.say(&[Piece::Text(" sets back first what moved first")])?;
         self.say_crossings(page, action)?;
         if count > MOST_CROSSINGS {

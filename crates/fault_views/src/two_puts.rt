@@ -201,7 +201,7 @@ impl<'a> FaultTelling<'a> {
         page.say(&[Piece::Text("puts that come only after a fault, refused beside it:\n")])?;
         let mut keys = Vec::new(alloc);
         for (index, row) in later.iter().enumerate() {
-            keys.push((line_of(&self.book, row.spot), number_of(index)))?;
+            keys.push((line_of(&self.parts, row.spot), number_of(index)))?;
         }
         keys.sort()?;
         for (_, index) in &keys {
@@ -228,8 +228,8 @@ impl<'a> FaultTelling<'a> {
             if self.is_worse_pair(pair) {
                 keys.push((
                     u32::MAX - rank_of(pair.worst.effect.class),
-                    line_of(&self.book, pair.first),
-                    line_of(&self.book, pair.second),
+                    line_of(&self.parts, pair.first),
+                    line_of(&self.parts, pair.second),
                     number_of(index),
                 ))?;
             }

@@ -1,5 +1,5 @@
 -- The text of a page: data on the script, one piece for each entry, and data on how the journal ends.
-use Rattle.std.specs.Prelude.{◌≡◌, ℕ, ◌+◌, List, [], ◌++◌, length, codes, Option, None, Some}
+use Rattle.std.specs.Prelude.{◌≡◌, ℕ, ◌+◌, List, [], ◌++◌, length, codes}
 use Rattle.std.specs.List.{All, flat_map}
 use Rattle.caa_base.specs.declared.written.entry.Entry.{Entry}
 use Rattle.place_plan.specs.Plans.PlanValue.{Plan}
@@ -12,16 +12,11 @@ use Rattle.journal_replay.specs.declared.moves.Move.{Move}
 use Rattle.journal_replay.specs.declared.moves.Move.TheVariants as move
 use Rattle.journal_page.specs.declared.stances.Stance.{Stance}
 use Rattle.journal_page.specs.declared.turns.Turn.{Turn}
-use Rattle.journal_page.specs.Stances.{IsStance, AreTurns, StopsAt}
+use Rattle.journal_page.specs.Stances.{LinesOf, place_number, IsStance, AreTurns, StopsAt}
 
 -- a list of the data
 abbrev pub list_text : List ℕ → List ℕ
 list_text inner = codes "[" ++ inner ++ codes "0],\n"
-
--- the number of a place, counted from 1; 0 for none
-abbrev pub place_number : Option ℕ → ℕ
-place_number None = 0
-place_number (Some p) = p + 1
 
 -- the number of what is lacking
 abbrev pub lack_number : Lack → ℕ
@@ -74,10 +69,10 @@ data_text plan head first turns tail = parts_text head ++ middle_text plan first
 
 -- a text is the page of a journal, between this data: a piece for each entry, as far as the rules let the entries come, and in each
 -- piece stances that are right after its entry
-pub record IsPage (plan : Plan) (head tail : List Part) (entries : List Entry) (text : List ℕ) : Type 0 where
+pub record IsPage (lines : LinesOf) (plan : Plan) (head tail : List Part) (entries : List Entry) (text : List ℕ) : Type 0 where
   pub first : List Stance
   pub turns : List Turn
-  pub at_first : All (IsStance plan []) first
-  pub are_turns : AreTurns plan entries turns
+  pub at_first : All (IsStance lines plan []) first
+  pub are_turns : AreTurns lines plan entries turns
   pub stops : StopsAt plan entries (length turns)
   pub same : text ≡ page_text (data_text plan head first turns tail)

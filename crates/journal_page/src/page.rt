@@ -90,7 +90,7 @@ pub fn page<L: Lines>(
     tail: &[Part],
 ) -> Result<Vec<u8>, OutOfMemory>
     requires { AllWellFormed plan.now entries.now }
-    ensures { IfOk result (λ text. IsPage plan.now head.now tail.now entries.now text.items) }
+    ensures { IfOk result (λ text. IsPage (L.line_at lines.now) plan.now head.now tail.now entries.now text.items) }
 {
     let turns = turns_of(alloc, lines, plan, entries)?;
     let mut text = begun(alloc, FRONT, head)?;

@@ -1,13 +1,16 @@
 //! Where a participant stands after some entries of a journal, as a page tells it.
 
-ghost use Rattle.std.specs.Prelude.{◌≡◌, ◌<◌, length, IfOk, IfSome};
-ghost use Rattle.std.specs.List.{All};
+ghost use Rattle.std.specs.Prelude.{◌≡◌, ◌<◌, ◌++◌, ℕ, length, OnOk, IfOk, IfSome};
+ghost use Rattle.std.specs.List.{All, filter, flat_map};
+ghost use Rattle.place_plan.specs.Plans.PlanValue.{Plan as PlanValue};
+ghost use Rattle.place_plan.specs.Plans.Places.{roles_of, objects_of};
 ghost use Rattle.place_plan.specs.RulesOfJournals.WellFormed.{IsWellFormed};
-ghost use Rattle.place_plan.specs.RulesOfJournals.Whereabouts.{inside};
 ghost use Rattle.journal_replay.specs.Moves.{IsMove};
 ghost use Rattle.journal_states.specs.Past.{plan_in, past_in};
-ghost use Rattle.journal_page.specs.Pages.{place_number};
-ghost use Rattle.journal_page.specs.Stances.{entries_in, IsStance, ShowsWellFormed};
+ghost use Rattle.journal_states.specs.Spots.{spot_of};
+ghost use Rattle.journal_states.specs.Waits.{is_awaited, is_lacking};
+ghost use Rattle.journal_states.specs.declared.spots.Spot.{Spot as SpotValue};
+ghost use Rattle.journal_page.specs.Stances.{entries_in, place_number, object_awaited, object_lacking, awaited_in, line_at, IsStance, ShowsWellFormed};
 
 use caa_base::written::entry::{Entry, Object, OutOfMemory, Participant, Place};
 use journal_laws::is_well_formed;
@@ -33,8 +36,12 @@ pub struct Stance {
 
 /// What knows the lines of a script.
 pub trait Lines {
+    /// The line at which a participant stands that is at a spot.
+    ghost line_at: { Self → PlanValue → ℕ → SpotValue → ℕ };
+
     /// The line at which a participant stands that is at this spot.
-    fn line_of(&self, plan: &Plan, by: Participant, spot: &Spot) -> u32;
+    fn line_of(&self, plan: &Plan, by: Participant, spot: &Spot) -> u32
+        ensures { result ≡ Self.line_at self.now plan.now by spot.now };
 }
 
 /// The entries that a move lets a participant make.
@@ -65,14 +72,33 @@ pub(crate) fn place_number(place: Option<Place>) -> u64
 }
 
 /// Adds an object that is awaited, and the place that holds it.
-fn push_object(awaited: &mut Vec<u64>, states: &States, object: Object) -> Result<(), OutOfMemory> {
+fn push_object(awaited: &mut Vec<u64>, states: &States, object: Object) -> Result<(), OutOfMemory>
+    ensures { OnOk result (awaited.new.items ≡ awaited.old.items ++ object_awaited (plan_in states.now) (past_in states.now) object) }
+{
     awaited.push(u64::from(object))?;
     awaited.push(place_number(states.holder(object)))?;
     Ok(())
 }
 
+/// Adds an object of a place, where it is awaited there.
+fn push_lacking(
+    awaited: &mut Vec<u64>,
+    states: &States,
+    place: Place,
+    object: Object,
+) -> Result<(), OutOfMemory>
+    ensures { OnOk result (awaited.new.items ≡ awaited.old.items ++ object_lacking (plan_in states.now) (past_in states.now) place object) }
+{
+    if states.is_lacking(place, object) {
+        push_object(awaited, states, object)?;
+    }
+    Ok(())
+}
+
 /// The roles for which a wait is.
-fn awaited_roles(alloc: Global, states: &States, wait: &Wait) -> Result<Vec<u64>, OutOfMemory> {
+fn awaited_roles(alloc: Global, states: &States, wait: &Wait) -> Result<Vec<u64>, OutOfMemory>
+    ensures { IfOk result (λ awaited. awaited.items ≡ filter (is_awaited (plan_in states.now) (past_in states.now) wait.now.place wait.now.lack) (roles_of (plan_in states.now) wait.now.place)) }
+{
     let mut awaited = Vec::new(alloc);
     for role in states.plan().roles_of(wait.place) {
         if states.is_awaited(wait, *role) {
@@ -83,18 +109,20 @@ fn awaited_roles(alloc: Global, states: &States, wait: &Wait) -> Result<Vec<u64>
 }
 
 /// The objects that a place waits for before it can start.
-fn awaited_objects(alloc: Global, states: &States, place: Place) -> Result<Vec<u64>, OutOfMemory> {
+fn awaited_objects(alloc: Global, states: &States, place: Place) -> Result<Vec<u64>, OutOfMemory>
+    ensures { IfOk result (λ awaited. awaited.items ≡ flat_map (object_lacking (plan_in states.now) (past_in states.now) place) (objects_of (plan_in states.now) place)) }
+{
     let mut awaited = Vec::new(alloc);
     for object in states.plan().objects_of(place) {
-        if states.is_lacking(place, *object) {
-            push_object(&mut awaited, states, *object)?;
-        }
+        push_lacking(&mut awaited, states, place, *object)?;
     }
     Ok(awaited)
 }
 
 /// Whom or what a move waits for.
-fn awaited_in(alloc: Global, states: &States, next: &Move) -> Result<Vec<u64>, OutOfMemory> {
+fn awaited_in(alloc: Global, states: &States, next: &Move) -> Result<Vec<u64>, OutOfMemory>
+    ensures { IfOk result (λ awaited. awaited.items ≡ awaited_in (plan_in states.now) (past_in states.now) next.now) }
+{
     let Move::Wait(wait) = next else {
         return Ok(Vec::new(alloc));
     };
@@ -105,12 +133,16 @@ fn awaited_in(alloc: Global, states: &States, next: &Move) -> Result<Vec<u64>, O
             push_object(&mut awaited, states, object)?;
             Ok(awaited)
         }
-        _ => awaited_roles(alloc, states, wait),
+        Lack::Roles | Lack::Halts | Lack::Verdicts | Lack::GiveUps => {
+            awaited_roles(alloc, states, wait)
+        }
     }
 }
 
 /// The line at which a participant stands; 0 for none.
-fn line_in<L: Lines>(lines: &L, states: &States, by: Participant) -> u32 {
+fn line_in<L: Lines>(lines: &L, states: &States, by: Participant) -> u32
+    ensures { result ≡ line_at (L.line_at lines.now) (plan_in states.now) by (spot_of (plan_in states.now) (past_in states.now) by) }
+{
     match states.spot(by) {
         Some(spot) => lines.line_of(states.plan(), by, &spot),
         None => 0,
@@ -125,34 +157,6 @@ fn choices_are_well_formed(states: &States, by: Participant, next: &Move)
     is_well_formed(states.plan());
     let _ = by;
     let _ = next;
-}
-
-/// The stance of a participant that stands so after the entries that were taken in.
-fn stance_of(
-    alloc: Global,
-    states: &States,
-    by: Participant,
-    place: Option<Place>,
-    line: u32,
-    next: Move,
-    awaited: Vec<u64>,
-) -> Result<Stance, OutOfMemory>
-    requires known { by < length (plan_in states.now).participants }
-    requires place { place ≡ inside (plan_in states.now) (past_in states.now) by }
-    requires next { IsMove (plan_in states.now) (past_in states.now) by next }
-    ensures right { IfOk result (IsStance (plan_in states.now) (past_in states.now)) }
-    ensures well_formed { IfOk result (ShowsWellFormed (plan_in states.now)) }
-{
-    choices_are_well_formed(states, by, &next);
-    let entries = entries_in(alloc, by, &next)?;
-    Ok(Stance {
-        by,
-        place,
-        line,
-        next,
-        entries,
-        awaited,
-    })
 }
 
 /// Whether a participant stands as before.
@@ -183,7 +187,7 @@ pub(crate) fn stance_unless<L: Lines>(
     before: Option<&Stance>,
 ) -> Result<Option<Stance>, OutOfMemory>
     requires { by < length (plan_in states.now).participants }
-    ensures right { IfOk result (λ found. IfSome found (IsStance (plan_in states.now) (past_in states.now))) }
+    ensures right { IfOk result (λ found. IfSome found (IsStance (L.line_at lines.now) (plan_in states.now) (past_in states.now))) }
     ensures well_formed { IfOk result (λ found. IfSome found (ShowsWellFormed (plan_in states.now))) }
 {
     let next = states.move_of(by);
@@ -193,6 +197,14 @@ pub(crate) fn stance_unless<L: Lines>(
     if is_as_before(before, place, line, &next, &awaited) {
         return Ok(None);
     }
-    let stance = stance_of(alloc, states, by, place, line, next, awaited)?;
-    Ok(Some(stance))
+    choices_are_well_formed(states, by, &next);
+    let entries = entries_in(alloc, by, &next)?;
+    Ok(Some(Stance {
+        by,
+        place,
+        line,
+        next,
+        entries,
+        awaited,
+    }))
 }

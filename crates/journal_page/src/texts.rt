@@ -5,8 +5,8 @@ ghost use Rattle.std.specs.List.{All, flat_map};
 ghost use Rattle.place_plan.specs.RulesOfJournals.WellFormed.{IsWellFormed};
 ghost use Rattle.journal_text.specs.Texts.Text.{entry_line};
 ghost use Rattle.page_text.specs.Parts.{number_text, string_text};
-ghost use Rattle.journal_page.specs.Pages.{place_number, lack_number, move_number, lines_text, seat_text, choices_text, awaited_text, list_text, stance_text, turn_text};
-ghost use Rattle.journal_page.specs.Stances.{ShowsWellFormed, TurnsWellFormed};
+ghost use Rattle.journal_page.specs.Pages.{lack_number, move_number, lines_text, seat_text, choices_text, awaited_text, list_text, stance_text, turn_text};
+ghost use Rattle.journal_page.specs.Stances.{place_number, ShowsWellFormed, TurnsWellFormed};
 
 use crate::stances::{Stance, place_number};
 use crate::turns::Turn;

@@ -72,9 +72,9 @@ fn push_unless<L: Lines>(
     stances: &mut Vec<Stance>,
 ) -> Result<bool, OutOfMemory>
     requires known { by < length (plan_in states.now).participants }
-    requires right { All (IsStance (plan_in states.now) (past_in states.now)) stances.old.items }
+    requires right { All (IsStance (L.line_at lines.now) (plan_in states.now) (past_in states.now)) stances.old.items }
     requires well_formed { All (ShowsWellFormed (plan_in states.now)) stances.old.items }
-    ensures right { OnOk result (All (IsStance (plan_in states.now) (past_in states.now)) stances.new.items) }
+    ensures right { OnOk result (All (IsStance (L.line_at lines.now) (plan_in states.now) (past_in states.now)) stances.new.items) }
     ensures well_formed { OnOk result (All (ShowsWellFormed (plan_in states.now)) stances.new.items) }
 {
     match stance_unless(alloc, lines, states, by, before)? {
@@ -95,7 +95,7 @@ fn stances_now<L: Lines>(
     turns: &[Turn],
     told: &mut [Told],
 ) -> Result<Vec<Stance>, OutOfMemory>
-    ensures right { IfOk result (λ r. All (IsStance (plan_in states.now) (past_in states.now)) r.items) }
+    ensures right { IfOk result (λ r. All (IsStance (L.line_at lines.now) (plan_in states.now) (past_in states.now)) r.items) }
     ensures well_formed { IfOk result (λ r. All (ShowsWellFormed (plan_in states.now)) r.items) }
 {
     let mut stances = Vec::new(alloc);
@@ -123,7 +123,7 @@ fn turn_of<L: Lines>(
     told: &mut [Told],
 ) -> Result<Turn, OutOfMemory>
     ensures entry { IfOk result (λ turn. turn.entry ≡ entry.now) }
-    ensures right { IfOk result (λ turn. All (IsStance (plan_in states.now) (past_in states.now)) turn.stances.items) }
+    ensures right { IfOk result (λ turn. All (IsStance (L.line_at lines.now) (plan_in states.now) (past_in states.now)) turn.stances.items) }
     ensures well_formed { IfOk result (λ turn. All (ShowsWellFormed (plan_in states.now)) turn.stances.items) }
 {
     let stances = stances_now(alloc, lines, states, first, turns, told)?;
@@ -150,8 +150,8 @@ pub fn turns_of<L: Lines>(
     entries: &[Entry],
 ) -> Result<Turns, OutOfMemory>
     requires { AllWellFormed plan.now entries.now }
-    ensures first { IfOk result (λ r. All (IsStance plan.now []) r.first.items) }
-    ensures turns { IfOk result (λ r. AreTurns plan.now entries.now r.turns.items) }
+    ensures first { IfOk result (λ r. All (IsStance (L.line_at lines.now) plan.now []) r.first.items) }
+    ensures turns { IfOk result (λ r. AreTurns (L.line_at lines.now) plan.now entries.now r.turns.items) }
     ensures stops { IfOk result (λ r. StopsAt plan.now entries.now (length r.turns.items)) }
     ensures first_formed { IfOk result (λ r. All (ShowsWellFormed plan.now) r.first.items) }
     ensures formed { IfOk result (λ r. All (TurnsWellFormed plan.now) r.turns.items) }

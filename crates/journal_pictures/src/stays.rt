@@ -206,7 +206,7 @@ fn draw_step(
 }
 
 /// Writes the number and the action of a place where a participant arrives; at the top of the part for the place in which it is there,
-/// with those round it.
+/// behind those round it, the outermost first.
 fn name_stay(
     alloc: Global,
     shapes: &mut Vec<Shape>,
@@ -226,7 +226,7 @@ fn name_stay(
         );
     }
     if is_innermost(view, stays, stay) {
-        for outer in view.plan.around(stay.place) {
+        for outer in view.plan.around(stay.place).iter().rev() {
             push_place(&mut words, view.plan, *outer)?;
             push_word(&mut words, b"/")?;
         }

@@ -63,7 +63,7 @@ fn doing_before(states: &States, by: Participant, kind: Kind) -> Doing
     };
     match spot.phase {
         Phase::Body if is_step => Doing::Body,
-        Phase::Handler(_) if is_step => Doing::Handler,
+        Phase::Handler if is_step => Doing::Handler,
         _ => Doing::Turn,
     }
 }

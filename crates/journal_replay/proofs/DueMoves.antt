@@ -32,5 +32,5 @@ module _ (plan : Plan) (playable : IsPlayable plan) (past : List Entry) (legal :
   is_move law t (move.Put e) due right = device_decides plan past law t e due right
   is_move law t (move.Mix work) due right =
       record { next = the_entry plan past law t (work_entry work.place t work.rounds work.from) due refl; start = right }
-  is_move law t (move.Wait wait) due right = (no_entry plan past law t due, unfinished t wait.place right.0, right)
+  is_move law t (move.Wait wait) due right = (no_entry plan past law t due, unfinished t wait.place right.here, right)
   is_move law t move.Over due right = (no_entry plan past law t due, right)

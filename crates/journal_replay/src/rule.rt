@@ -5,8 +5,8 @@ ghost use Rattle.caa_base.specs.Written.Lists.{first_not};
 ghost use Rattle.place_plan.specs.declared.drafts.draft_rows.Step.TheVariants as step;
 ghost use Rattle.place_plan.specs.Plans.Places.{roles_of, handler_of, abort_row, alternates_of, internal_of};
 ghost use Rattle.place_plan.specs.RulesOfJournals.Entries.{has_by};
-ghost use Rattle.place_plan.specs.RulesOfJournals.Whereabouts.{inside, has_ended, is_undoing};
-ghost use Rattle.place_plan.specs.RulesOfJournals.Raising.{has_handled, exceptions_raised, is_raised, is_calm, exception_resolved};
+ghost use Rattle.place_plan.specs.RulesOfJournals.Whereabouts.{inside, has_started, has_ended, is_undoing};
+ghost use Rattle.place_plan.specs.RulesOfJournals.Raising.{has_handled, exceptions_raised, is_raised, is_doomed, is_calm, exception_resolved};
 ghost use Rattle.place_plan.specs.RulesOfJournals.Objects.{value_of, next_restore};
 ghost use Rattle.place_plan.specs.RulesOfJournals.Roles.{register, program_of, next_step, next_play, raise_of, all_have_given, signals};
 ghost use Rattle.place_plan.specs.RulesOfJournals.Rules.{clamped, abort_of, undone_mark};
@@ -14,7 +14,8 @@ ghost use Rattle.place_plan.specs.RulesOfJournals.Journals.{IsLegal};
 ghost use Rattle.journal_laws.specs.Due.{says, plainly, marked, naming, verdict_entry, least_of, due_arrival, due_waiting, due_restore, due_doomed, due_end, due_agreed, due_held, due_step, due_forward, due_handler, due_resolved, due_halted, due_hot, due_calm, due_inside, due_of};
 ghost use Rattle.journal_replay.specs.PastParts.{plan_of, entries_of};
 ghost use Rattle.journal_replay.specs.IsDue.{IsDue};
-ghost use Rattle.journal_replay.specs.Moves.{IsMove};
+ghost use Rattle.journal_replay.specs.Moves.{lack_of, lack_of_step, lack_at_work, lack_going, IsMove};
+ghost use Rattle.journal_replay.specs.declared.moves.Lack.TheVariants as lack;
 ghost use Rattle.journal_replay.specs.inner.Deciding.{entry_in, waits_for, enters, IsRight};
 
 use crate::answer::Due;
@@ -109,6 +110,7 @@ fn lacking(place: Place, lack: Lack) -> Move
 #[inline(never)]
 fn due_waiting<R: Records>(past: &Past<'_, R>, place: Place, by: Participant) -> Move
     requires here { inside (plan_of past.now) (entries_of past.now) by ≡ Some place }
+    requires waits { has_started (entries_of past.now) place ≡ false }
     ensures entry { entry_in by result ≡ due_waiting (plan_of past.now) (entries_of past.now) place by }
     ensures right { IsRight (plan_of past.now) (entries_of past.now) by result }
 {
@@ -197,6 +199,8 @@ fn exception_named<R: Records>(
 #[inline(never)]
 fn due_doomed<R: Records>(past: &Past<'_, R>, place: Place, by: Participant) -> Move
     requires here { inside (plan_of past.now) (entries_of past.now) by ≡ Some place }
+    requires started { has_started (entries_of past.now) place ≡ true }
+    requires doomed { is_doomed (plan_of past.now) (entries_of past.now) place ≡ true }
     ensures entry { entry_in by result ≡ due_doomed (plan_of past.now) (entries_of past.now) place by }
     ensures right { IsRight (plan_of past.now) (entries_of past.now) by result }
 {
@@ -230,6 +234,7 @@ fn due_end<R: Records>(past: &Past<'_, R>, place: Place, by: Participant) -> Ent
 fn due_agreed<R: Records>(past: &Past<'_, R>, place: Place, by: Participant, raised: bool) -> Move
     requires here { inside (plan_of past.now) (entries_of past.now) by ≡ Some place }
     requires raised { raised ≡ is_raised (plan_of past.now) (entries_of past.now) place }
+    requires own { lack_of (plan_of past.now) (entries_of past.now) place by ≡ Some lack.Verdicts }
     ensures entry { entry_in by result ≡ due_agreed (plan_of past.now) (entries_of past.now) place by }
     ensures right { IsRight (plan_of past.now) (entries_of past.now) by result }
 {
@@ -249,6 +254,7 @@ fn due_agreed<R: Records>(past: &Past<'_, R>, place: Place, by: Participant, rai
 fn due_read<R: Records>(past: &Past<'_, R>, place: Place, by: Participant, object: Object) -> Move
     requires here { inside (plan_of past.now) (entries_of past.now) by ≡ Some place }
     requires known { object < length (plan_of past.now).objects }
+    requires own { lack_of (plan_of past.now) (entries_of past.now) place by ≡ Some (lack.Object object) }
     ensures entry { entry_in by result ≡ due_held (plan_of past.now) (entries_of past.now) place object (says kind.Read place by object (value_of (plan_of past.now) (entries_of past.now) object)) }
     ensures right { IsRight (plan_of past.now) (entries_of past.now) by result }
 {
@@ -271,6 +277,7 @@ fn due_write<R: Records>(
 ) -> Move
     requires here { inside (plan_of past.now) (entries_of past.now) by ≡ Some place }
     requires known { object < length (plan_of past.now).objects }
+    requires own { lack_of (plan_of past.now) (entries_of past.now) place by ≡ Some (lack.Object object) }
     ensures entry { entry_in by result ≡ due_held (plan_of past.now) (entries_of past.now) place object (says kind.Write place by object value) }
     ensures right { IsRight (plan_of past.now) (entries_of past.now) by result }
 {
@@ -318,6 +325,7 @@ fn due_step<R: Records>(
     requires start { from ≡ register (plan_of past.now) (entries_of past.now) place by }
     requires passes { raise_of step from ≡ None }
     requires stays { enters step ≡ false }
+    requires own { lack_of (plan_of past.now) (entries_of past.now) place by ≡ lack_of_step step }
     ensures entry { entry_in by result ≡ due_step (plan_of past.now) (entries_of past.now) place by step }
     ensures right { IsRight (plan_of past.now) (entries_of past.now) by result }
 {
@@ -366,6 +374,7 @@ fn due_forward<R: Records>(
     requires step { step ≡ next_step (plan_of past.now) (entries_of past.now) place by }
     requires start { from ≡ register (plan_of past.now) (entries_of past.now) place by }
     requires passes { raise_of step from ≡ None }
+    requires own { lack_of (plan_of past.now) (entries_of past.now) place by ≡ lack_of_step step }
     ensures entry { entry_in by result ≡ due_forward (plan_of past.now) (entries_of past.now) place by step }
     ensures right { IsRight (plan_of past.now) (entries_of past.now) by result }
 {
@@ -384,6 +393,7 @@ fn due_calm<R: Records>(past: &Past<'_, R>, place: Place, by: Participant) -> Mo
     requires here { inside (plan_of past.now) (entries_of past.now) by ≡ Some place }
     requires calm { is_calm (plan_of past.now) (entries_of past.now) place ≡ true }
     requires unraised { is_raised (plan_of past.now) (entries_of past.now) place ≡ false }
+    requires own { lack_of (plan_of past.now) (entries_of past.now) place by ≡ lack_going (plan_of past.now) (entries_of past.now) place by }
     ensures entry { entry_in by result ≡ due_calm (plan_of past.now) (entries_of past.now) place by }
     ensures right { IsRight (plan_of past.now) (entries_of past.now) by result }
 {
@@ -404,6 +414,7 @@ fn due_calm<R: Records>(past: &Past<'_, R>, place: Place, by: Participant) -> Mo
 fn due_handler<R: Records>(past: &Past<'_, R>, place: Place, by: Participant) -> Move
     requires here { inside (plan_of past.now) (entries_of past.now) by ≡ Some place }
     requires handled { has_handled (entries_of past.now) place by ≡ true }
+    requires own { lack_of (plan_of past.now) (entries_of past.now) place by ≡ lack_of_step (next_step (plan_of past.now) (entries_of past.now) place by) }
     ensures entry { entry_in by result ≡ due_handler (plan_of past.now) (entries_of past.now) place by }
     ensures right { IsRight (plan_of past.now) (entries_of past.now) by result }
 {
@@ -435,6 +446,7 @@ fn due_resolved<R: Records>(
 ) -> Move
     requires here { inside (plan_of past.now) (entries_of past.now) by ≡ Some place }
     requires hot { is_raised (plan_of past.now) (entries_of past.now) place ≡ true }
+    requires own { lack_of (plan_of past.now) (entries_of past.now) place by ≡ lack_at_work (plan_of past.now) (entries_of past.now) place by }
     ensures entry { entry_in by result ≡ due_resolved (plan_of past.now) (entries_of past.now) place by exception }
     ensures right { IsRight (plan_of past.now) (entries_of past.now) by result }
 {
@@ -462,6 +474,7 @@ fn least_cover<R: Records>(past: &Past<'_, R>, place: Place) -> Exception
 fn due_unresolved<R: Records>(past: &Past<'_, R>, place: Place, by: Participant) -> Move
     requires here { inside (plan_of past.now) (entries_of past.now) by ≡ Some place }
     requires hot { is_raised (plan_of past.now) (entries_of past.now) place ≡ true }
+    requires own { lack_of (plan_of past.now) (entries_of past.now) place by ≡ Some lack.Halts }
     ensures entry { entry_in by result ≡ due_halted (plan_of past.now) (entries_of past.now) place by None }
     ensures right { IsRight (plan_of past.now) (entries_of past.now) by result }
 {
@@ -477,6 +490,7 @@ fn due_unresolved<R: Records>(past: &Past<'_, R>, place: Place, by: Participant)
 fn due_halted<R: Records>(past: &Past<'_, R>, place: Place, by: Participant) -> Move
     requires here { inside (plan_of past.now) (entries_of past.now) by ≡ Some place }
     requires hot { is_raised (plan_of past.now) (entries_of past.now) place ≡ true }
+    requires own { lack_of (plan_of past.now) (entries_of past.now) place by ≡ lack_going (plan_of past.now) (entries_of past.now) place by }
     ensures entry { entry_in by result ≡ due_halted (plan_of past.now) (entries_of past.now) place by (exception_resolved (entries_of past.now) place) }
     ensures right { IsRight (plan_of past.now) (entries_of past.now) by result }
 {
@@ -491,6 +505,7 @@ fn due_halted<R: Records>(past: &Past<'_, R>, place: Place, by: Participant) -> 
 fn due_hot<R: Records>(past: &Past<'_, R>, place: Place, by: Participant) -> Move
     requires here { inside (plan_of past.now) (entries_of past.now) by ≡ Some place }
     requires hot { is_raised (plan_of past.now) (entries_of past.now) place ≡ true }
+    requires own { lack_of (plan_of past.now) (entries_of past.now) place by ≡ lack_going (plan_of past.now) (entries_of past.now) place by }
     ensures entry { entry_in by result ≡ due_hot (plan_of past.now) (entries_of past.now) place by }
     ensures right { IsRight (plan_of past.now) (entries_of past.now) by result }
 {

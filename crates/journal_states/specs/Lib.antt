@@ -1,1 +1,3 @@
 pub mod Past
+pub mod Spots
+pub mod Waits

@@ -3,19 +3,18 @@
 ghost use Rattle.std.specs.Prelude.{◌≡◌, ◌<◌, ◌≤◌, ℕ, length, take, reverse, IfOk, IfSome, Some, slice_index_or};
 ghost use Rattle.place_plan.specs.RulesOfJournals.Whereabouts.{inside};
 ghost use Rattle.place_plan.specs.RulesOfJournals.Raising.{is_raised};
-ghost use Rattle.place_plan.specs.RulesOfJournals.Objects.{value_of};
+ghost use Rattle.place_plan.specs.RulesOfJournals.Objects.{holder_of, value_of};
 ghost use Rattle.place_plan.specs.RulesOfJournals.Journals.{LegalPast};
 ghost use Rattle.place_plan.proofs.OnJournals.LegalProp.{LegalPast-prop};
 ghost use Rattle.action_core.specs.inner.KeptPast.{StandsFor as TablesStand};
 ghost use Rattle.action_core.specs.inner.OneWay.{StandsFor-prop};
 
-use crate::spots::{Spot, Spots};
+use crate::spots::{Spot, phase_in};
 use action_core::Tables;
 use caa_base::written::entry::{Entry, Object, OutOfMemory, Participant, Place};
 use journal_replay::audit::may_follow;
 use journal_replay::moves::{Lack, Move, Wait};
 use journal_replay::past::Past;
-use journal_replay::questions::holds;
 use journal_replay::records::Records;
 use journal_replay::rule::move_of;
 use place_plan::plans::plan::Plan;
@@ -30,7 +29,6 @@ pub struct States<'a> {
     entries: &'a [Entry],
     taken: usize,
     tables: Tables,
-    spots: Spots,
     ghost within: { taken ≤ length entries.now },
     ghost legal: { LegalPast plan.now (reverse (take taken entries.now)) } by { LegalPast-prop plan.now (reverse (take taken entries.now)) },
     ghost stands: { TablesStand plan.now (reverse (take taken entries.now)) tables } by { StandsFor-prop plan.now (reverse (take taken entries.now)) tables },
@@ -40,6 +38,8 @@ impl<'a> States<'a> {
     ghost use Rattle.journal_replay.specs.Moves.{IsMove};
     ghost use Rattle.journal_replay.specs.PastParts.{plan_of, entries_of};
     ghost use Rattle.journal_states.specs.Past.{plan_in, journal_in, taken_in, past_in, Stepped};
+    ghost use Rattle.journal_states.specs.Spots.{spot_in, spot_of};
+    ghost use Rattle.journal_states.specs.Waits.{is_awaited, is_lacking};
 
     /// The cursor before the first entry.
     pub fn open(
@@ -52,13 +52,11 @@ impl<'a> States<'a> {
         ensures taken { IfOk result (λ states. taken_in states ≡ 0) }
     {
         let tables = Tables::open(alloc, plan)?;
-        let spots = Spots::open(alloc, plan)?;
         Ok(States {
             plan,
             entries,
             taken: 0,
             tables,
-            spots,
         })
     }
 
@@ -74,7 +72,6 @@ impl<'a> States<'a> {
         if !may_follow(&self.past(), entry) {
             return false;
         }
-        self.spots.note(self.plan, entry);
         self.tables
             .note(self.plan, &self.entries[..self.taken], entry);
         self.taken += 1;
@@ -147,19 +144,22 @@ impl<'a> States<'a> {
 
     /// Whether a wait is for this participant: what is lacking in the place is said of each role, and isn't so of this one. A wait for
     /// objects is for nobody.
-    pub fn is_awaited(&self, wait: &Wait, role: Participant) -> bool {
+    pub fn is_awaited(&self, wait: &Wait, role: Participant) -> bool
+        ensures { result ≡ is_awaited (plan_in self.now) (past_in self.now) wait.now.place wait.now.lack role }
+    {
+        let past = self.past();
         match wait.lack {
-            Lack::Roles => self.place_of(role) != Some(wait.place),
-            Lack::Halts => !Tables::is_halted(&self.past(), wait.place, role),
-            Lack::Verdicts => !self.has_given(wait.place, role),
-            Lack::GiveUps => !Tables::has_aborted(&self.past(), wait.place, role),
+            Lack::Roles => Tables::inside(&past, role) != Some(wait.place),
+            Lack::Halts => !Tables::is_halted(&past, wait.place, role),
+            Lack::Verdicts => !Tables::has_given(
+                &past,
+                wait.place,
+                role,
+                self.is_raised(wait.place),
+            ),
+            Lack::GiveUps => !Tables::has_aborted(&past, wait.place, role),
             Lack::Objects | Lack::Object(_) => false,
         }
-    }
-
-    /// Whether a role has given its verdict in a place, since the resolve where something was raised there.
-    fn has_given(&self, place: Place, role: Participant) -> bool {
-        Tables::has_given(&self.past(), place, role, self.is_raised(place))
     }
 
     /// Whether something was raised in a place.
@@ -169,41 +169,48 @@ impl<'a> States<'a> {
         Tables::course_of(&self.past(), place).is_raised
     }
 
-    /// The place that holds an object, where it is one of the places that somebody is in. Only such a place holds one.
-    pub fn holder(&self, object: Object) -> Option<Place> {
-        for by in 0..self.plan.participants() {
-            if let Some(place) = self.place_of(by) {
-                if let Some(holder) = self.holder_from(object, place) {
-                    return Some(holder);
-                }
-            }
+    /// The place that holds an object, if one does.
+    pub fn holder(&self, object: Object) -> Option<Place>
+        ensures { result ≡ holder_of (plan_in self.now) (past_in self.now) object }
+    {
+        self.plan.is_closed();
+        if object < self.plan.objects() {
+            Tables::holder_of(&self.past(), object)
+        } else {
+            None
         }
-        None
-    }
-
-    /// Which of a place and those round it holds an object.
-    fn holder_from(&self, object: Object, place: Place) -> Option<Place> {
-        if object >= self.plan.objects() {
-            return None;
-        }
-        if holds(&self.past(), place, object) {
-            return Some(place);
-        }
-        for outer in self.plan.around(place) {
-            if holds(&self.past(), *outer, object) {
-                return Some(*outer);
-            }
-        }
-        None
     }
 
     /// Whether the place round this one, or nobody for a play, doesn't hold an object of it.
-    pub fn is_lacking(&self, place: Place, object: Object) -> bool {
+    pub fn is_lacking(&self, place: Place, object: Object) -> bool
+        ensures { result ≡ is_lacking (plan_in self.now) (past_in self.now) place object }
+    {
         self.holder(object) != self.plan.parent(place)
     }
 
     /// Where in its program a participant stands, if it is in a place.
-    pub fn spot(&self, by: Participant) -> Option<Spot> {
-        self.spots.at(self.plan, self.place_of(by)?, by)
+    pub fn spot(&self, by: Participant) -> Option<Spot>
+        ensures { result ≡ spot_of (plan_in self.now) (past_in self.now) by }
+    {
+        let past = self.past();
+        match Tables::inside(&past, by) {
+            Some(place) => Some(self.spot_in(place, by)),
+            None => None,
+        }
+    }
+
+    /// How far a participant has come in the place that it is in.
+    fn spot_in(&self, place: Place, by: Participant) -> Spot
+        requires { inside (plan_in self.now) (past_in self.now) by ≡ Some place }
+        ensures { result ≡ spot_in (plan_in self.now) (past_in self.now) place by }
+    {
+        let past = self.past();
+        let progress = Tables::progress_of(&past, place, by);
+        Spot {
+            place,
+            phase: phase_in(&Tables::course_of(&past, place), progress.handled),
+            handled: progress.handled,
+            step: progress.position,
+        }
     }
 }

@@ -3,9 +3,9 @@
 ghost use Rattle.std.specs.Prelude.{◌≤◌, IfOk, IfSome};
 ghost use Rattle.place_plan.specs.RulesOfJournals.WellFormed.{AllWellFormed};
 
+use crate::plan_names::PlanNames;
 use crate::playing_page::playing_text;
 use crate::rehearsal_page::Telling;
-use crate::script_names::Book;
 use action_script::forms::script::Script;
 use action_script::words::word::natural_of;
 use caa_base::written::entry::{Drill, Object, OutOfMemory};
@@ -14,6 +14,7 @@ use place_plan::plans::plan::Plan;
 use rehearsals::numbered::{Played, play_numbered, usual_length};
 use rehearsals::refusing::{Refusals, RefusingPlant, Trouble};
 use rehearsals::rehearsing::{Rehearsal, drills_of, rehearse};
+use script_checker::lines::Lines;
 use script_outcomes::outlooks::outlooks;
 use std::alloc::Global;
 
@@ -92,15 +93,17 @@ fn rehearsing_of(words: &[String]) -> Option<Rehearsing>
 fn rehearsal_text(
     alloc: Global,
     script: &Script,
+    lines: &Lines,
     rehearsal: &Rehearsal,
     file: &[u8],
     as_csv: bool,
 ) -> Result<Vec<u8>, OutOfMemory> {
     let outlooks = outlooks(alloc, script, &rehearsal.plan)?;
     let telling = Telling {
-        book: Book {
-            script,
+        names: script.names(),
+        parts: PlanNames {
             plan: &rehearsal.plan,
+            lines,
         },
         rehearsal,
         outlooks: &outlooks,
@@ -116,6 +119,7 @@ fn rehearsal_text(
 pub fn show_rehearsal(
     alloc: Global,
     script: &Script,
+    lines: &Lines,
     plan: Plan,
     file: &[u8],
     words: &[String],
@@ -129,7 +133,7 @@ pub fn show_rehearsal(
     }
     let rehearsal = rehearse(alloc, plan, asked.count)?;
     Ok(Told::Page {
-        text: rehearsal_text(alloc, script, &rehearsal, file, asked.as_csv)?,
+        text: rehearsal_text(alloc, script, lines, &rehearsal, file, asked.as_csv)?,
         is_bad: rehearsal.has_failed,
     })
 }

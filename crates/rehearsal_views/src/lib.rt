@@ -2,6 +2,6 @@
 #![tactic(auto)]
 
 pub mod asking;
+pub mod plan_names;
 pub mod playing_page;
 pub mod rehearsal_page;
-pub mod script_names;

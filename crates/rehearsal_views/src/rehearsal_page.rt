@@ -1,14 +1,14 @@
 //! A rehearsal, told path by path: what was seen, what wasn't, and what never comes.
 
-use crate::script_names::{Book, say_value, say_way};
-use caa_base::written::entry::{Object, OutOfMemory, Outcome, Place};
+use crate::plan_names::{PlanNames, say_value, say_way};
+use caa_base::written::entry::{Exception, Object, OutOfMemory, Outcome, Place};
+use caa_base::written::name::Name;
 use rehearsals::facts::Fact;
 use rehearsals::paths::number_of;
 use rehearsals::rehearsing::Rehearsal;
 use rehearsals::tally::{Row, Tally};
 use script_outcomes::outlooks::Outlook;
 use script_outcomes::ways::Way;
-use script_views::looking::{first_line, roles_of};
 use script_views::page::{Page, Piece};
 use std::alloc::Global;
 
@@ -48,7 +48,9 @@ fn say_seen(page: &mut Page, row: &Row, total: u32) -> Result<(), OutOfMemory> {
 /// A rehearsal, with the names of its script, and what is told of each of its actions, in their order.
 #[derive(Clone, Copy)]
 pub struct Telling<'a> {
-    pub book: Book<'a>,
+    /// The names of the script.
+    pub names: &'a [Name],
+    pub parts: PlanNames<'a>,
     pub rehearsal: &'a Rehearsal,
     pub outlooks: &'a [Outlook],
 }
@@ -123,12 +125,12 @@ impl<'a> Telling<'a> {
 
     /// What a row says, without its counts.
     fn text_of(&self, alloc: Global, action: u32, fact: &Fact) -> Result<Vec<u8>, OutOfMemory> {
-        let mut page = Page::new(alloc, self.book.script.names());
+        let mut page = Page::new(alloc, self.names);
         match fact {
             Fact::Resolved(_, exception) => {
-                page.name(self.book.internal_name(action, *exception))?
+                page.show(self.parts.internal_name(action, *exception))?
             }
-            Fact::Ended(_, outcome) => self.book.say_outcome(&mut page, action, *outcome)?,
+            Fact::Ended(_, outcome) => self.parts.say_outcome(&mut page, action, *outcome)?,
             _ => {}
         }
         Ok(page.into_text())
@@ -169,13 +171,13 @@ impl<'a> Telling<'a> {
 
     /// Says what was seen of a path.
     fn say_path(&self, alloc: Global, page: &mut Page, path: Place) -> Result<(), OutOfMemory> {
-        let action = self.book.action_of(path);
-        self.book.say_path(page, path)?;
+        let action = self.parts.action_of(path);
+        self.parts.say_path(page, path)?;
         page.say(&[Piece::Text(" (")])?;
-        self.book.say_action(page, action)?;
+        self.parts.say_action(page, action)?;
         page.say(&[
             Piece::Text(", line "),
-            Piece::Number(u64::from(first_line(self.book.action(action)))),
+            Piece::Number(u64::from(self.parts.first_line(action))),
             Piece::Text(")\n"),
         ])?;
         if !self.say_started(page, path)? {
@@ -197,7 +199,7 @@ impl<'a> Telling<'a> {
         object: Object,
     ) -> Result<(), OutOfMemory> {
         page.say(&[Piece::Text("object ")])?;
-        self.book.say_object(page, object)?;
+        self.parts.say_object(page, object)?;
         for (place, (_, _, index)) in ranked_values(alloc, self.tally().rows(), object)?
             .iter()
             .enumerate()
@@ -220,20 +222,18 @@ impl<'a> Telling<'a> {
         page.say(&[Piece::Text("\n")])
     }
 
-    /// Says the roles that have a handler for an exception, by its name.
+    /// Says the roles that have a handler for an exception.
     fn say_handlers(
         &self,
         page: &mut Page,
         action: u32,
-        exception: u32,
+        exception: Exception,
     ) -> Result<(), OutOfMemory> {
         let mut is_first = true;
-        for role in roles_of(self.book.action(action)) {
-            if self.book.handles(action, *role, exception) {
-                page.say(&[
-                    Piece::Text(if is_first { " (handlers of " } else { ", " }),
-                    Piece::Named(*role),
-                ])?;
+        for role in 0..self.parts.roles(action) {
+            if self.parts.handles(action, role, exception) {
+                page.say(&[Piece::Text(if is_first { " (handlers of " } else { ", " })])?;
+                self.parts.say_role(page, action, role)?;
                 is_first = false;
             }
         }
@@ -243,19 +243,21 @@ impl<'a> Telling<'a> {
         Ok(())
     }
 
-    /// Whether some role has a handler for an exception, by its name.
-    fn is_handled(&self, action: u32, exception: u32) -> bool {
-        roles_of(self.book.action(action))
-            .iter()
-            .any(|role| self.book.handles(action, *role, exception))
-    }
-
-    /// Says an exception, by its name, that no place of a path resolved.
-    fn say_missing(&self, page: &mut Page, path: Place, exception: u32) -> Result<(), OutOfMemory> {
+    /// Says an exception that no place of a path resolved.
+    fn say_missing(
+        &self,
+        page: &mut Page,
+        path: Place,
+        exception: Exception,
+    ) -> Result<(), OutOfMemory> {
+        let action = self.parts.action_of(path);
         page.say(&[Piece::Text("  ")])?;
-        self.book.say_path(page, path)?;
-        page.say(&[Piece::Text(" resolved "), Piece::Named(exception)])?;
-        self.say_handlers(page, self.book.action_of(path), exception)?;
+        self.parts.say_path(page, path)?;
+        page.say(&[
+            Piece::Text(" resolved "),
+            Piece::Word(self.parts.internal_name(action, exception)),
+        ])?;
+        self.say_handlers(page, action, exception)?;
         page.say(&[Piece::Text("\n")])
     }
 
@@ -268,9 +270,10 @@ impl<'a> Telling<'a> {
     ) -> Result<bool, OutOfMemory> {
         let mut has_any = false;
         for (index, row) in outlook.rows.iter().enumerate() {
-            let resolved = Fact::Resolved(path, number_of(index));
+            let exception = number_of(index);
+            let resolved = Fact::Resolved(path, exception);
             if row.can_come && self.tally().row(&resolved).is_none() {
-                self.say_missing(page, path, row.exception)?;
+                self.say_missing(page, path, exception)?;
                 has_any = true;
             }
         }
@@ -279,10 +282,10 @@ impl<'a> Telling<'a> {
 
     /// Whether a place of a path ended so.
     fn has_ended(&self, path: Place, way: Way) -> bool {
-        let action = self.book.action_of(path);
+        let action = self.parts.action_of(path);
         self.tally().rows().iter().any(|row| match row.fact {
             Fact::Ended(place, outcome) => {
-                place == path && self.book.way_of(action, outcome) == Some(way)
+                place == path && self.parts.is_way(self.names, action, outcome, way)
             }
             _ => false,
         })
@@ -299,7 +302,7 @@ impl<'a> Telling<'a> {
         for way in outlook.ways.iter() {
             if !self.has_ended(path, *way) {
                 page.say(&[Piece::Text("  ")])?;
-                self.book.say_path(page, path)?;
+                self.parts.say_path(page, path)?;
                 page.say(&[Piece::Text(" ended ")])?;
                 say_way(page, *way)?;
                 page.say(&[Piece::Text("\n")])?;
@@ -312,13 +315,13 @@ impl<'a> Telling<'a> {
     /// Says that no place of a path started.
     fn say_unstarted(&self, page: &mut Page, path: Place) -> Result<(), OutOfMemory> {
         page.say(&[Piece::Text("  ")])?;
-        self.book.say_path(page, path)?;
+        self.parts.say_path(page, path)?;
         page.say(&[Piece::Text(" started\n")])
     }
 
     /// What is told of the action of a path.
     fn outlook_of(&self, path: Place) -> Option<&'a Outlook> {
-        self.outlooks.get(self.book.action_of(path) as usize)
+        self.outlooks.get(self.parts.action_of(path) as usize)
     }
 
     /// Says what no place of a path showed, though it may come; tells whether there was anything.
@@ -341,9 +344,10 @@ impl<'a> Telling<'a> {
             return Ok(false);
         };
         let mut has_any = false;
-        for row in outlook.rows.iter() {
-            if !row.can_come && self.is_handled(self.book.action_of(path), row.exception) {
-                self.say_missing(page, path, row.exception)?;
+        for (index, row) in outlook.rows.iter().enumerate() {
+            let exception = number_of(index);
+            if !row.can_come && self.parts.is_handled(self.parts.action_of(path), exception) {
+                self.say_missing(page, path, exception)?;
                 has_any = true;
             }
         }
@@ -358,7 +362,7 @@ impl<'a> Telling<'a> {
     /// Says what no place showed, path by path: what may come, or what never does.
     fn say_all_unseen(&self, page: &mut Page, may_come: bool) -> Result<(), OutOfMemory> {
         let mut has_any = false;
-        for place in 0..self.book.plan.places() {
+        for place in 0..self.parts.plan.places() {
             if self.is_path(place) {
                 let has_more = if may_come {
                     self.say_unseen(page, place)?
@@ -376,14 +380,14 @@ impl<'a> Telling<'a> {
 
     /// The page.
     pub fn page(&self, alloc: Global, file: &[u8]) -> Result<Vec<u8>, OutOfMemory> {
-        let mut page = Page::new(alloc, self.book.script.names());
+        let mut page = Page::new(alloc, self.names);
         self.say_head(&mut page, file)?;
-        for place in 0..self.book.plan.places() {
+        for place in 0..self.parts.plan.places() {
             if self.is_path(place) {
                 self.say_path(alloc, &mut page, place)?;
             }
         }
-        for object in 0..self.book.plan.objects() {
+        for object in 0..self.parts.plan.objects() {
             self.say_object(alloc, &mut page, object)?;
         }
         page.say(&[
@@ -402,37 +406,37 @@ impl<'a> Telling<'a> {
         match fact {
             Fact::Started(path) => {
                 page.say(&[Piece::Text("start,")])?;
-                self.book.say_path(page, *path)?;
+                self.parts.say_path(page, *path)?;
                 page.say(&[Piece::Text(",")])
             }
             Fact::Resolved(path, exception) => {
                 page.say(&[Piece::Text("resolve,")])?;
-                self.book.say_path(page, *path)?;
+                self.parts.say_path(page, *path)?;
                 page.say(&[Piece::Text(",")])?;
-                page.name(
-                    self.book
-                        .internal_name(self.book.action_of(*path), *exception),
+                page.show(
+                    self.parts
+                        .internal_name(self.parts.action_of(*path), *exception),
                 )
             }
             Fact::Handled(path, role, exception) => {
-                let action = self.book.action_of(*path);
+                let action = self.parts.action_of(*path);
                 page.say(&[Piece::Text("handle,")])?;
-                self.book.say_path(page, *path)?;
+                self.parts.say_path(page, *path)?;
                 page.say(&[Piece::Text(",")])?;
-                self.book.say_role(page, action, *role)?;
+                self.parts.say_role(page, action, *role)?;
                 page.say(&[Piece::Text(" ")])?;
-                page.name(self.book.internal_name(action, *exception))
+                page.show(self.parts.internal_name(action, *exception))
             }
             Fact::Ended(path, outcome) => {
                 page.say(&[Piece::Text("end,")])?;
-                self.book.say_path(page, *path)?;
+                self.parts.say_path(page, *path)?;
                 page.say(&[Piece::Text(",")])?;
-                self.book
-                    .say_outcome(page, self.book.action_of(*path), *outcome)
+                self.parts
+                    .say_outcome(page, self.parts.action_of(*path), *outcome)
             }
             Fact::Last(object, value) => {
                 page.say(&[Piece::Text("object,")])?;
-                self.book.say_object(page, *object)?;
+                self.parts.say_object(page, *object)?;
                 page.say(&[Piece::Text(",")])?;
                 say_value(page, *value)
             }
@@ -441,7 +445,7 @@ impl<'a> Telling<'a> {
 
     /// The same as lines of a table: a fact a line, in the order in which they were first shown.
     pub fn csv(&self, alloc: Global) -> Result<Vec<u8>, OutOfMemory> {
-        let mut page = Page::new(alloc, self.book.script.names());
+        let mut page = Page::new(alloc, self.names);
         page.say(&[Piece::Text("kind,where,what,seen,of,first\n")])?;
         for row in self.tally().rows() {
             self.say_csv_fact(&mut page, &row.fact)?;

@@ -5,6 +5,7 @@ pub mod Compiled
 pub mod DeclaredSoFar
 pub mod InAction
 pub mod InGraph
+pub mod LinesOfPlan
 pub mod Numbers
 pub mod PlanSizes
 pub mod PlaySizes

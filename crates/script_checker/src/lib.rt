@@ -8,6 +8,7 @@ pub mod declared;
 pub mod drill_list;
 mod ending;
 mod graph;
+pub mod lines;
 pub mod lookups;
 mod naming;
 pub mod number_list;

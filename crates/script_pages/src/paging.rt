@@ -200,7 +200,7 @@ pub fn journal_page_of<L: Lines>(
     entries: &[Entry],
 ) -> Result<Vec<u8>, OutOfMemory>
     requires { AllWellFormed plan.now entries.now }
-    ensures { IfOk result (λ text. IsJournalPage plan.now entries.now text.items) }
+    ensures { IfOk result (λ text. IsJournalPage (L.line_at lines.now) plan.now entries.now text.items) }
 {
     let mut head = head_parts(alloc, subject, None)?;
     push_bytes(alloc, &mut head, &tables(alloc, script, plan)?)?;

@@ -15,7 +15,7 @@ use std::alloc::{AllocError, Global};
 use std::mem::replace;
 
 /// Whether a line is a step or a verdict line.
-fn goes_on(form: &Form) -> bool
+pub(crate) fn goes_on(form: &Form) -> bool
     ensures { result ≡ goes_on form.now }
 {
     matches!(

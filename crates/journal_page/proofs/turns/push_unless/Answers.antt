@@ -5,6 +5,6 @@ use Rattle.journal_page.proofs.turns.push_unless.Goals as goal
 
 pub returns-in_ok-push-in-Some-clause-right : goal.returns-in_ok-push-in-Some-clause-right
 returns-in_ok-push-in-Some-clause-right g c =
-    let right = IsStance (plan_in c.args.states.now) (past_in c.args.states.now) in
+    let right = IsStance (g.L.Lines.line_at c.args.lines.now) (plan_in c.args.states.now) (past_in c.args.states.now) in
     rw c.in_ok-push-in-Some.ensures.items
     (All-push right c.args.stances.now.items c.in-Some.stance c.requires.right (rw c.in-Some.is at c.in_ok-stance.ensures.right))

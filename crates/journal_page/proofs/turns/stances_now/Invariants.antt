@@ -5,6 +5,6 @@ use Rattle.journal_page.proofs.turns.stances_now.Given as goal
 
 abbrev pub invariant-loop-by : goal.invariant-loop-by
 invariant-loop-by g l = record {
-  right : All (IsStance (plan_in l.states) (past_in l.states)) l.stances.items;
+  right : All (IsStance (g.L.Lines.line_at l.lines) (plan_in l.states) (past_in l.states)) l.stances.items;
   well_formed : All (ShowsWellFormed (plan_in l.states)) l.stances.items;
 }

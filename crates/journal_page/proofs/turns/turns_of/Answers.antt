@@ -11,11 +11,12 @@ use Rattle.journal_page.proofs.turns.turns_of.Goals as goal
 
 pub returns-then-not-step-clause-first : goal.returns-then-not-step-clause-first
 returns-then-not-step-clause-first g c =
-    at_start c.in_ok-states.states c.args.plan.now c.in_ok-first.first.items c.in_ok-states.ensures.plan c.in_ok-states.ensures.taken
+    at_start (g.L.Lines.line_at c.args.lines.now) c.in_ok-states.states c.args.plan.now c.in_ok-first.first.items c.in_ok-states.ensures.plan c.in_ok-states.ensures.taken
     c.in_ok-first.ensures.right
 
 pub loop-entry-preserved : goal.loop-entry-preserved
 loop-entry-preserved g c =
+    let lines = g.L.Lines.line_at c.args.lines.now in
     let plan = c.args.plan.now in
     let entries = c.args.entries.now in
     let states = c.step.new.self in
@@ -36,9 +37,9 @@ loop-entry-preserved g c =
       taken = omega (arith, taken);
       counted = omega (arith, c.in_ok-push.ensures.len, so_far.counted);
       turns =
-          subst (AreTurns plan entries) (sym items)
-          (one_more plan entries turns turn so_far.turns
-          (rw so_far.counted (turn_is states plan entries k turn of over taken found c.in_ok-turn.ensures.right)));
+          subst (AreTurns lines plan entries) (sym items)
+          (one_more lines plan entries turns turn so_far.turns
+          (rw so_far.counted (turn_is lines states plan entries k turn of over taken found c.in_ok-turn.ensures.right)));
       formed =
           subst (All (TurnsWellFormed plan)) (sym items)
           (All-push (TurnsWellFormed plan) turns turn so_far.formed (record { entry = well; stances = shown }));
@@ -46,7 +47,7 @@ loop-entry-preserved g c =
 
 pub returns-clause-first : goal.returns-clause-first
 returns-clause-first g c =
-    at_start c.in_ok-states.states c.args.plan.now c.in_ok-first.first.items c.in_ok-states.ensures.plan c.in_ok-states.ensures.taken
+    at_start (g.L.Lines.line_at c.args.lines.now) c.in_ok-states.states c.args.plan.now c.in_ok-first.first.items c.in_ok-states.ensures.plan c.in_ok-states.ensures.taken
     c.in_ok-first.ensures.right
 
 pub returns-clause-stops : goal.returns-clause-stops

@@ -10,6 +10,6 @@ invariant-loop-entry g l = record {
   journal : journal_in l.states ≡ l.entries;
   taken : taken_in l.states ≡ l.entry-index;
   counted : length l.turns.items ≡ l.entry-index;
-  turns : AreTurns l.plan l.entries l.turns.items;
+  turns : AreTurns (g.L.Lines.line_at l.lines) l.plan l.entries l.turns.items;
   formed : All (TurnsWellFormed l.plan) l.turns.items;
 }
