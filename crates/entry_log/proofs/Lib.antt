@@ -1,2 +1,4 @@
 mod MadeEntries
 pub mod LogLemmas
+pub mod LiveLemmas
+mod Walks

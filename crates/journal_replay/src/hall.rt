@@ -244,6 +244,13 @@ impl<P: Plant, R: Records> Played<P, R> {
         }
     }
 
+    /// The plant, which was laid out for the plan.
+    pub fn plant(&self) -> &P
+        ensures { result.now ≡ plant_in self.now }
+    {
+        &self.plant
+    }
+
     /// The plan, the plant and the journal, which is legal for the plan. It takes no memory.
     ///
     /// The plant was asked as often since it was laid out as the journal has writes, refused puts and restores. Where it tells all

@@ -5,7 +5,7 @@ ghost use Rattle.std.specs.List.{flat_map};
 ghost use Rattle.std.specs.Io.KnownBytes.{append_known};
 ghost use Rattle.caa_base.specs.Outside.Counts.{CountsFault};
 ghost use Rattle.caa_base.specs.Outside.Writing.{WrotePart};
-ghost use Rattle.place_plan.specs.RulesOfJournals.WellFormed.{AllWellFormed};
+ghost use Rattle.place_plan.specs.RulesOfJournals.WellFormed.{IsWellFormed, AllWellFormed};
 ghost use Rattle.journal_text.specs.Texts.Naming.{is_well_named};
 ghost use Rattle.journal_text.specs.Texts.Room.{spare, most_line};
 ghost use Rattle.journal_text.specs.Texts.Text.{entry_line, entries_text, rest_lines};
@@ -26,6 +26,9 @@ const BLOCK: usize = 65_536;
 
 /// The lines of how many entries are gathered at most. They fit in a block, as long as names may be.
 const AT_ONCE: usize = 512;
+
+/// Room for the line of any entry, as long as names may be.
+const LINE_ROOM: usize = 128;
 
 /// What stands behind the lines of the entries in the text of a journal: the value of each object, the outcome of each place, and
 /// what was seen.
@@ -65,6 +68,21 @@ pub fn write_in_blocks<K: Sink>(
     write_all(sink, b"journal\n")?;
     write_entries(sink, plan, journal.as_slice())?;
     write_all(sink, rest)
+}
+
+/// Writes the line of an entry to a sink by one call, as it stands in the text of a journal: for whoever logs each entry as it is made.
+/// It takes no memory.
+///
+/// Where a write fails, only a part of the line was written, from its front and not to its end.
+pub fn write_line<K: Sink>(sink: &mut K, plan: &Plan, entry: &Entry) -> Result<(), Failed>
+    requires named { is_well_named plan.now ≡ true }
+    requires formed { IsWellFormed plan.now entry.now }
+    ensures done { OnOk result (K.held sink.new ≡ append_known (K.held sink.old) (entry_line plan.now entry.now)) }
+    ensures part { OnErr result (WrotePart (K.held sink.old) (K.held sink.new) (entry_line plan.now entry.now)) }
+    ensures count { CountsFault (is_err result) (K.faults sink.old) (K.faults sink.new) }
+{
+    let mut room = [0u8; LINE_ROOM];
+    write_at_once(sink, &mut room, plan, &[*entry])
 }
 
 /// Writes a line for each entry to a sink, those of some entries at once.
