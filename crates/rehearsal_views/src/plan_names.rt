@@ -4,7 +4,7 @@ use caa_base::written::entry::{Exception, Object, OutOfMemory, Outcome, Place};
 use caa_base::written::name::{Name, name_at};
 use place_plan::drafts::draft_rows::{ActionRow, RoleRow};
 use place_plan::plans::plan::Plan;
-use rehearsals::paths::use_of;
+use rehearsals::paths::{number_of, use_of};
 use script_checker::lines::Lines;
 use script_outcomes::ways::Way;
 use script_views::page::{Page, Piece};
@@ -30,7 +30,7 @@ impl<'a> PlanNames<'a> {
     /// How many roles an action has.
     pub fn roles(&self, action: u32) -> u32 {
         match self.row(action) {
-            Some(row) => row.roles.len() as u32,
+            Some(row) => number_of(row.roles.len()),
             None => 0,
         }
     }
