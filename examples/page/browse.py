@@ -1,7 +1,8 @@
 #!/usr/bin/env python3
 """Opens pages of `caa_show page` in a real browser without a window, steps through them, and compares what they say with the rules: who
-may make which entry, and who has to wait, as play_by_rules.py reads it from docs/journal.md. Where no chromium is installed it says so
-and ends well. With the other program it also opens pages of long journals, of which that of some 5,000 entries has to step at once.
+may make which entry, and who has to wait, as play_by_rules.py reads it from docs/journal.md. On a small and a large screen whoever acts
+is in sight and nothing is cut off; what came of it is told at the beginning; and a journal that breaks off opens at its end. Where no
+chromium is installed it says so and ends well. With the other program it also opens pages of long journals, of which that of some 5,000 entries has to step at once.
 
     python3 -B examples/page/browse.py CAA_SHOW [CAA]"""
 import base64
@@ -141,16 +142,65 @@ def differs(said, wanted):
     return not said.startswith("may:") or wanted not in re.split(r"may: |\nor, where the device refuses: ", said)
 
 
+SCREENS = ((1024, 768), (1920, 1080))
+SEEN = """(() => { const box = document.getElementById('journal').getBoundingClientRect(), row = document.querySelector('#journal .now'),
+sign = row && row.querySelector('.sign'), lane = sign && sign.parentElement, at = lane && lane.getBoundingClientRect();
+return !!lane && at.left >= box.left && at.right <= box.right + 1 && lane.scrollWidth <= lane.clientWidth + 1; })()"""
+CAME = "[...document.querySelectorAll('#ends tr')].map(r => [...r.cells].map(c => c.textContent))"
+
+
+def page_of(program, text, file):
+    """Writes the page of a script with its journal, which the program may find broken off."""
+    with open(file, "wb") as it:
+        it.write(subprocess.run([program, "page"], input=text.encode(), stdout=subprocess.PIPE, check=False).stdout)
+
+
+def looks(browser, name, count):
+    """On each screen, whether whoever acts is in sight at some entries, and what it does isn't cut off."""
+    wrong = []
+    for width, height in SCREENS:
+        browser.ask("Emulation.setDeviceMetricsOverride", width=width, height=height, deviceScaleFactor=1, mobile=False)
+        for row in sorted({1 + (count - 1) * it // 20 for it in range(21)}):
+            browser.run(f"go({row})")
+            if not browser.run(SEEN):
+                wrong.append(f"{name}: at {width} points who makes entry {row} isn't wholly in sight")
+    browser.ask("Emulation.clearDeviceMetricsOverride")
+    return wrong
+
+
+def comes(browser, name, journal):
+    """Whether the page begins with the first raise, the first refused put, and the end of each play."""
+    lines = [it.split() for it in journal]
+    refused = [it for it in lines if it[0] == "putfault" or it[0] == "restore" and it[-1] == "failed"]
+    wanted = [["first raise", it] for it in [x for x in lines if x[0] == "raise"][:1]] + [["first refused put", it] for it in refused[:1]]
+    said = browser.run(CAME)
+    wrong = [f"{name}: what came of it isn't {it}" for it in wanted if [it[0], " ".join(it[1][:1] + it[1][2:])] not in said]
+    ends = [it[1:] for it in said if it[0].startswith("play ")]
+    outer = browser.run("PLACES.map((it, n) => it[1] ? -1 : n).filter(n => n >= 0)")
+    if ends != [[" ".join(it[3:])] for it in lines if it[0] == "end" and int(it[1]) in outer]:
+        wrong.append(f"{name}: plays ended otherwise than {ends}")
+    return wrong
+
+
+def breaks_off(browser, program, text, journal_text, folder):
+    """Whether the page of a journal that breaks off says so, and opens at its end."""
+    lines = journal_text.splitlines(True)[:20]
+    page = os.path.join(folder, "broken.html")
+    page_of(program, text + "".join(lines), page)
+    browser.open(page)
+    said = browser.run("[document.getElementById('status').textContent, location.hash]")
+    return [] if said == ["breaks off behind entry 19", "#19"] else [f"a journal that breaks off says {said}"]
+
+
 def compare(browser, program, name, seed, folder):
     with open(os.path.join(EXAMPLES, "cases", name), encoding="utf-8") as it:
         text = it.read()
     journal_text = play_by_rules.journal_of(text, seed)
     journal = [it for it in journal_text.splitlines()[1:] if it.split()[0] not in ("object", "outcome")]
     page = os.path.join(folder, name + ".html")
-    with open(page, "wb") as it:
-        it.write(subprocess.run([program, "page"], input=(text + journal_text).encode(), stdout=subprocess.PIPE, check=True).stdout)
+    page_of(program, text + journal_text, page)
     browser.open(page)
-    wrong, rows = [], sorted({len(journal) * it // 10 for it in range(11)})
+    wrong, rows = looks(browser, name, len(journal)) + comes(browser, name, journal), sorted({len(journal) * it // 10 for it in range(11)})
     who, wanted = standings(text, journal, rows)
     for row in rows:
         browser.run(f"location.hash = '#{row}'; onhashchange()")
@@ -170,7 +220,7 @@ def compare(browser, program, name, seed, folder):
     if raises and browser.run("location.hash") != f"#{raises[0]}":
         wrong.append(f"{name}: r leads elsewhere than to entry {raises[0]}")
     wrong += [f"{name}: {it}" for it in browser.errors()]
-    return wrong, len(rows)
+    return wrong + breaks_off(browser, program, text, journal_text, folder), len(rows)
 
 
 STEPS = """(() => { const from = performance.now();

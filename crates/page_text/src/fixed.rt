@@ -10,10 +10,11 @@ pub const FRONT: &[u8] = b"<!doctype html>
 :root{color-scheme:light dark;--paper:#fff;--ink:#111;--faint:#666;--rule:#ccc;--now:#fe9;--stand:#cfe8fa;--body:#56B4E9;--handler:#E69F00;--bad:#c22;--box:0,0,0}
 @media(prefers-color-scheme:dark){:root{--paper:#181818;--ink:#eee;--faint:#aaa;--rule:#444;--now:#564a10;--stand:#17405c;--bad:#ff7b6b;--box:255,255,255}}
 *{box-sizing:border-box}
-body{margin:0;height:100vh;display:grid;grid-template:auto 1fr/26ch minmax(40ch,1fr) 46ch;font:12px/1.5 monospace;background:var(--paper);color:var(--ink)}
+body{margin:0;height:100vh;display:grid;grid-template:auto 1fr/auto minmax(40ch,1fr) 46ch;font:12px/1.5 monospace;background:var(--paper);color:var(--ink)}
 header{grid-column:1/-1;display:flex;flex-wrap:wrap;gap:4px 12px;align-items:center;padding:4px 8px;border-bottom:1px solid var(--rule)}
-header b{font-size:14px}#step{flex:1 1 16ch}#told{min-width:34ch}.bad,#state .waits{color:var(--bad)}#state .waits{cursor:pointer;text-decoration:underline dotted}.later{opacity:.6}#status.bad{font-weight:bold}
+header b{font-size:14px}#step{flex:1 1 16ch}#told{min-width:34ch}.bad,#state .waits{color:var(--bad)}#ends td{cursor:pointer}#state .waits{cursor:pointer;text-decoration:underline dotted}.later{opacity:.6}#status.bad{font-weight:bold}
 button,select,input{font:inherit}
+#script{width:26ch;min-width:14ch;max-width:50vw;resize:horizontal}
 main,aside{overflow:auto;border-right:1px solid var(--rule);position:relative}
 .all{position:relative}.row{position:absolute;left:0;height:20px;line-height:20px;white-space:pre;cursor:pointer;min-width:100%}
 .no{position:sticky;left:0;display:inline-block;width:7ch;padding-right:1ch;text-align:right;color:var(--faint);background:var(--paper);z-index:1}
@@ -40,7 +41,7 @@ svg{display:block;max-width:none}svg text{fill:currentColor;font:12px monospace;
 <header><b id='file'></b><span id='status'></span><input id='step' type='range' min='0' value='0' aria-label='entries taken in'><span id='told' role='status' aria-live='polite'></span><label>participant <select id='whom'><option value=''>all</option></select></label><label>place <select id='where'><option value=''>all</option></select></label><label>kind <select id='what'><option value=''>all</option></select></label></header>
 <main id='script' aria-label='script'><div class='all'></div></main>
 <main id='journal' aria-label='journal'><div id='heads'></div><div class='all'></div></main>
-<aside><div id='after'><h2>Who may do what</h2><table id='state'></table><h2>Objects</h2><table id='objects'></table></div><pre id='why'></pre><details><summary>Who handles what</summary><pre id='table'></pre></details><details open><summary>Signs and keys</summary><pre>blue         is in its body
+<aside><div id='after'><div id='come'><h2>What came of it</h2><table id='ends'></table></div><h2>Who may do what</h2><table id='state'></table><h2>Objects</h2><table id='objects'></table></div><pre id='why'></pre><details><summary>Who handles what</summary><pre id='table'></pre></details><details open><summary>Signs and keys</summary><pre>blue         is in its body
 orange       is in a handler
 hatched      waits
 thin         is in a place, and may go on
@@ -82,6 +83,7 @@ const list = (box, count, draw) => { const all = box.querySelector('.all'); let 
     all.replaceChildren(); for (let k = first; k < Math.min(n, first + seen); k++) { const row = draw(k, k == first); row.classList.add('row'); row.style.top = (high < n * ROW ? box.scrollTop + (k - first) * ROW : k * ROW) + 'px'; all.append(row); } };
   const reach = k => { const n = count(), high = Math.min(n * ROW, MOST), seen = Math.floor(box.clientHeight / ROW) - 3; all.style.height = high + 'px'; if (k < spare || k >= spare + seen) box.scrollTop = (high < n * ROW ? k / n * high : k * ROW) - box.clientHeight / 2; show(); };
   box.addEventListener('scroll', show); window.addEventListener('resize', show); return { show, reach }; };
+const BROKE = / the journal breaks off here/.test(text(WHY));
 let now = 0, state = at(0), before = state, rows = null; const folded = new Set();
 const size = () => rows ? rows.length : ENTRIES.length, entry = r => rows ? rows[r] : r, row_of = k => rows ? rows.findLastIndex(it => it <= k) : k;
 const standing = c => [c[3] == 0 ? 'is through' : c[3] < 3 ? 'may: ' + c[4].map(line => line.trim()).join('\\nor, where the device refuses: ') : waits(c), c[3] > 2];
@@ -93,17 +95,21 @@ const script = list($('script'), () => SCRIPT.length, k => { const line = text(S
   row.append(make('span', 'no', String(k + 1))); let from = 0; for (const [n, column, width, why] of FAULTS) if (n == k + 1) { row.append(line.slice(from, column - 1), make('u', '', line.slice(column - 1, column - 1 + width) || ' ', why)); from = column - 1 + width; }
   row.append(line.slice(from)); if (here.length) row.append(make('i', '', '  ' + names(here.map(c => c[0])))); row.onclick = () => { const s = at(now); for (let n = now; n < ENTRIES.length; n++) { take(s, n); if (s.who.some(c => c[2] == k + 1)) return go(n + 1); } }; return row; });
 // The journal, a row an entry, a lane a participant.
-const wide = p => Math.max(24, WHO[p].length + 4) + 'ch', SIGNS = { arrive: '>', withdraw: '<', start: 'S', read: 'r', work: '*', write: 'w', check: '?', putfault: '!', raise: 'R', inform: 'i', resolve: '=', handle: 'H', verdict: 'V', abort: 'A', undo: 'U', restore: 'b', end: 'E', leave: '<' };
+const saying = w => w[0] == 'arrive' || w[0] == 'start' ? `${w[0]} ${place(+w[1] + 1)}` : w.toSpliced(1, 2).join(' ');
+const WIDE = WHO.map(n => Math.max(24, n.length + 4)); { const who = new Map(WHO.map((n, p) => [n, p])); ENTRIES.forEach((_, k) => { const w = words(k), p = who.get(w[2]); WIDE[p] = Math.max(WIDE[p], saying(w).length + 5); }); }
+const wide = p => WIDE[p] + 'ch', SIGNS = { arrive: '>', withdraw: '<', start: 'S', read: 'r', work: '*', write: 'w', check: '?', putfault: '!', raise: 'R', inform: 'i', resolve: '=', handle: 'H', verdict: 'V', abort: 'A', undo: 'U', restore: 'b', end: 'E', leave: '<' };
 let drawn = null;
 const lane = (p, k, w) => { const c = drawn.who[p], e = make('span', 'lane'); e.style.width = wide(p); rounds(c[1]).forEach((n, d) => { const b = make('span', 'place', '', 'place ' + place(n)); b.style.left = 1 + 3 * (rounds(c[1]).length - 1 - d) + 'px'; b.style.right = b.style.left; e.append(b); });
   if (c[1]) e.append(make('span', 'does ' + (c[3] > 2 ? 'waits' : c[2] && sections[c[2] - 1] || 'may'), '', standing(c)[0]));
-  if (WHO[p] == w[2]) { const last = w[0] == 'end' ? w[3] : w[0] == 'restore' ? w[5] : ''; e.append(make('span', `sign ${w[0]} ${last}`, last == 'failed' ? '\\u2717' : last == 'undone' ? 'U' : last == 'aborted' ? 'A' : SIGNS[w[0]], w.join(' ')), make('span', '', w[0] == 'arrive' || w[0] == 'start' ? `${w[0]} ${place(+w[1] + 1)}` : w.toSpliced(1, 2).join(' '))); } return e; };
+  if (WHO[p] == w[2]) { const last = w[0] == 'end' ? w[3] : w[0] == 'restore' ? w[5] : ''; e.append(make('span', `sign ${w[0]} ${last}`, last == 'failed' ? '\\u2717' : last == 'undone' ? 'U' : last == 'aborted' ? 'A' : SIGNS[w[0]], w.join(' ')), make('span', '', saying(w))); } return e; };
 const journal = list($('journal'), size, (r, first) => { const k = entry(r), w = words(k), row = make('div', k == now - 1 ? 'now' : k >= now ? 'later' : ''); row.dataset.entry = k + 1; if (first || rows) drawn = at(k + 1); else take(drawn, k);
   row.append(make('span', 'no', String(k + 1))); const n = +w[1] + 1; if (w[0] == 'start' || folded.has(n)) { const b = make('span', 'fold', folded.has(n) ? '+' : '-', (folded.has(n) ? 'show' : 'fold') + ' what is done in place ' + place(n)); b.onclick = e => { e.stopPropagation(); folded.has(n) ? folded.delete(n) : folded.add(n); sift(); }; row.append(b); } else row.append(' ');
   WHO.forEach((_, p) => row.append(lane(p, k, w))); row.onclick = () => go(k + 1); return row; });
 // What is seen: of these participants, places and kinds, without what stands in folded places but their ends.
 const sift = () => { const [whom, where, what] = ['whom', 'where', 'what'].map(id => $(id).value); rows = null; if (whom || where || what || folded.size) { rows = []; ENTRIES.forEach((_, k) => { const w = words(k), all = rounds(+w[1] + 1);
   if ((!whom || w[2] == whom) && (!where || all.includes(+where)) && (!what || w[0] == what) && !all.some((n, d) => folded.has(n) && (d > 0 || w[0] != 'end'))) rows.push(k); }); } journal.reach(Math.max(0, row_of(Math.max(0, now - 1)))); };
+const see = p => { const box = $('journal'), head = $('heads').querySelectorAll('b')[p], edge = head ? $('heads').firstChild.offsetWidth + 16 : 0; if (!head) return; const right = head.offsetLeft + head.offsetWidth;
+  if (right > box.scrollLeft + box.clientWidth) box.scrollLeft = right - box.clientWidth; if (head.offsetLeft < box.scrollLeft + edge) box.scrollLeft = head.offsetLeft - edge; };
 const find = (way, good) => { for (let k = now - 1 + way; k >= 0 && k < ENTRIES.length; k += way) if (good(k)) return go(k + 1); };
 const freed = p => { const s = at(now); for (let n = now; n < ENTRIES.length; n++) { take(s, n); if (s.who[p][3] < 3) return go(n + 1); } };
 const fill = (id, all) => $(id).replaceChildren(...all.map(([name, ...cells]) => { const tr = make('tr', name); cells.forEach(c => tr.append(Array.isArray(c) ? make('td', c[1] ? 'waits' : '', c[0]) : make('td', '', c))); return tr; }));
@@ -112,20 +118,27 @@ const go = n => { now = Math.max(0, Math.min(ENTRIES.length, n)); state = at(now
   fill('state', state.who.map((c, p) => [w[2] == WHO[p] ? 'by' : '', WHO[p], place(c[1]), c[2] ? 'line ' + c[2] : '', standing(c)]));
   [...$('state').rows].forEach((tr, p) => { const td = tr.querySelector('.waits'); if (td) { td.title = 'go to the entry that lets it go on'; td.onclick = () => freed(p); } });
   fill('objects', OBJECTS.map((o, k) => [state.values[k] != before.values[k] ? 'changed' : '', o[0], state.values[k], state.values[k] != before.values[k] ? 'was ' + before.values[k] : '']));
-  if (size()) journal.reach(Math.max(0, row_of(Math.max(0, now - 1)))); const here = state.who.find(c => c[2] && WHO[c[0]] == w[2]) || state.who.find(c => c[2]); if (here) script.reach(here[2] - 1); else script.show(); $('why').hidden = now < ENTRIES.length; };
+  if (size()) journal.reach(Math.max(0, row_of(Math.max(0, now - 1)))); if (now) see(WHO.indexOf(w[2])); const here = state.who.find(c => c[2] && WHO[c[0]] == w[2]) || state.who.find(c => c[2]); if (here) script.reach(here[2] - 1); else script.show(); $('why').hidden = now < ENTRIES.length; };
 onkeydown = e => { const way = { ArrowRight: 1, ArrowDown: 1, ArrowLeft: -1, ArrowUp: -1 }[e.key], by = now ? words(now - 1)[2] : ''; if (e.ctrlKey || e.altKey || e.metaKey) return;
   if (way && e.shiftKey) find(way, k => !by || words(k)[2] == by); else if (way && rows) { const r = row_of(now - 1); go(rows[Math.max(0, Math.min(rows.length - 1, rows[r] == now - 1 || way < 0 ? r + way : r + 1))] + 1); } else if (way) go(now + way);
   else if (e.key == 'r') find(1, k => words(k)[0] == 'raise'); else if (e.key == 'f') find(1, k => { const w = words(k); return w[0] == 'restore' && w[5] == 'failed'; }); else if (e.key == 'Home') go(0); else if (e.key == 'End') go(ENTRIES.length); else return; e.preventDefault(); };
 onhashchange = () => go(+location.hash.slice(1) || 0); $('step').max = ENTRIES.length; $('step').oninput = () => go(+$('step').value);
+// What came of it: the first raise, the first refused put, and how plays ended, those by commit only where they are few.
+const came = () => { const all = [], plays = PLACES.filter(it => !it[1]).length, ended = ENTRIES.flatMap((_, k) => { const w = words(k); return w[0] == 'end' && !PLACES[+w[1]][1] ? [[k, w]] : []; }), first = (told, good) => { const k = ENTRIES.findIndex((_, k) => good(words(k))); if (k >= 0) all.push([k, told, words(k).toSpliced(1, 1).join(' ')]); };
+  first('first raise', w => w[0] == 'raise'); first('first refused put', w => w[0] == 'putfault' || w[0] == 'restore' && w[5] == 'failed');
+  const shown = ended.length > 12 ? ended.filter(([, w]) => w[3] != 'commit') : ended; shown.slice(0, 50).forEach(([k, w]) => all.push([k, 'play ' + place(+w[1] + 1), w.slice(3).join(' ')]));
+  if (shown.length > 50) all.push([shown[50][0], `and ${shown.length - 50} more plays`, 'not by commit']); if (ended.length > 12) all.push([ended[0][0], 'plays that ended', `${ended.length - ended.filter(([, w]) => w[3] != 'commit').length} of ${ended.length} by commit`]);
+  if (BROKE) all.push([ENTRIES.length - 1, 'the journal', 'breaks off here']); if (ENTRIES.length && ended.length < plays) all.push([ENTRIES.length - 1, 'plays not ended', `${plays - ended.length}`]); return all; };
 // A graph, its nodes in layers.
 const SVG = 'http://www.w3.org/2000/svg', draw = (tag, has, words) => { const e = document.createElementNS(SVG, tag); for (const k in has) e.setAttribute(k, has[k]); if (words) e.append(words); return e; };
 GRAPHS.forEach(([title, nodes, edges]) => { const right = Math.max(0, ...nodes.map(n => n[1] + n[2])), low = Math.max(0, ...nodes.map(n => n[0])), svg = draw('svg', { viewBox: `-8 0 ${right + 16} ${low * 64}`, width: right + 16, height: low * 64, role: 'img' }); svg.append(draw('title', {}, title));
   edges.forEach(([up, down, dashed, label]) => { const [a, b] = [nodes[up], nodes[down]], x = a[1] + a[2] / 2, y = a[0] * 64 - 16, u = b[1] + b[2] / 2, v = b[0] * 64 - 44; svg.append(draw('path', { d: `M${x} ${y}C${x} ${y + 18} ${u} ${v - 18} ${u} ${v}m-3 -6l3 6l3 -6`, class: dashed ? 'dashed' : '' })); if (label) svg.append(draw('text', { x: (x + u) / 2, y: (y + v) / 2 + 4 }, label)); });
   nodes.forEach(([layer, left, width, label, more]) => { svg.append(draw('rect', { x: left, y: layer * 64 - 44, width, height: 28, rx: 4 }), draw('text', { x: left + width / 2, y: layer * 64 - (more ? 32 : 26) }, label)); if (more) svg.append(draw('text', { x: left + width / 2, y: layer * 64 - 20 }, more)); }); $('graphs').append(make('h2', '', title), svg); });
-$('file').textContent = text(FILE); document.title = text(FILE); $('status').textContent = STATUS; $('status').className = /^(legal|accepted)/.test(STATUS) ? '' : 'bad'; $('table').textContent = TABLE; $('why').textContent = text(WHY);
+$('file').textContent = text(FILE); document.title = text(FILE); $('status').textContent = BROKE ? `breaks off behind entry ${ENTRIES.length}` : STATUS; $('status').className = BROKE || /^(legal|accepted)/.test(STATUS) ? '' : 'bad'; $('table').textContent = TABLE; $('why').textContent = text(WHY);
 const choose = (id, all) => { all.forEach(([value, name]) => { const o = make('option', '', name); o.value = value; $(id).append(o); }); $(id).onchange = sift; };
 choose('whom', WHO.map(n => [n, n])); choose('where', PLACES.map((_, n) => [n + 1, place(n + 1)])); choose('what', Object.keys(SIGNS).map(n => [n, n])); WHO.forEach((n, p) => { const b = make('b', '', n); b.style.width = wide(p); if (!p) $('heads').append(make('span', 'no', ' '), ' '); $('heads').append(b); });
-if (!ENTRIES.length && !WHO.length) $('after').hidden = true; go(+location.hash.slice(1) || 0); script.show(); journal.show();
+if (!ENTRIES.length && !WHO.length) $('after').hidden = true; { const all = came(); fill('ends', all.map(([, ...it]) => ['', ...it])); [...$('ends').rows].forEach((tr, r) => tr.onclick = () => go(all[r][0] + 1)); $('come').hidden = !all.length; }
+go(+location.hash.slice(1) || (BROKE ? ENTRIES.length : 0)); script.show(); journal.show();
 </script>
 </html>
 ";
