@@ -1,19 +1,25 @@
 /* caa for hosts that speak C: the proved machine, stepped by a host that owns all input and output, all threads and the time.
  *
  *     caa machine = {0};
+ *     caa_counts counts;
  *     caa_step step;
  *     ...
  *     if (caa_open(&machine, script, length, &line, cause, sizeof cause - 1) != CAA_DONE) ...
- *     switch (caa_next(&machine, participant, &step)) {
- *     case CAA_PUTS:  caa_answer(&machine, write_register(step.object, step.value)); break;
- *     case CAA_WORKS: if (has_ended(participant, step.ticket)) caa_work_done(&machine, participant, step.ticket); break;
- *     ...
- *     }
+ *     for (caa_sizes(&machine, &counts); !counts.complete; caa_sizes(&machine, &counts))
+ *         for (uint32_t by = 0; by < counts.participants; by++)
+ *             switch (caa_next(&machine, by, &step)) {
+ *             case CAA_PUTS:  caa_answer(&machine, write_register(step.object, step.value)); break;
+ *             case CAA_WORKS: if (has_ended(by, &step)) caa_work_done(&machine, by, step.ticket); break;
+ *             ...
+ *             }
+ *
+ * Participants, objects and places are numbered from 0: the first two in the order of their lines in the script, places as in the journal.
  *
  * Every call may come in any order and with any numbers; what doesn't fit is answered so, and changes nothing. All memory is taken by
  * caa_open, and no call takes longer because the journal is long. docs/library.md tells what is proved, and what the host has to keep:
  *
- *   - a caa is all zero before its first call, and then only the library reads and writes it: it is never copied;
+ *   - a caa is all zero before its first call, and then only the library reads and writes it: it is never copied, but it
+ *     may be moved, where what it was moved from is zero from then on or forgotten;
  *   - a caa is used by one thread alone, and not from a signal handler or the child of a fork;
  *   - no pointer is null, also where its length is 0; what two pointers of one call point to doesn't overlap; a bool is 0 or 1. */
 #ifndef CAA_H
@@ -71,11 +77,11 @@ typedef struct caa_step {
     uint32_t what;   /* the answer, as caa_next gives it */
     uint32_t place;  /* of the entry, the work, the put or the wait */
     uint32_t object; /* of a put, or the one that is lacking */
-    uint32_t rounds; /* of a work, as the script has them */
+    uint32_t rounds; /* of a work, as the script has them; how long it takes the host alone says */
     uint32_t lack;   /* what is lacking, by its number */
     int64_t value;   /* to which a put is to bring its object */
     uint64_t entry;  /* the number of the entry that was made, counted from 0 */
-    uint64_t ticket; /* of a work; a work that came later, as that of a handler, has another */
+    uint64_t ticket; /* of a work; a later work of this participant, as that of a handler, has another */
     bool restores;   /* the put brings its object back, since an action is undone */
 } caa_step;
 
@@ -90,36 +96,41 @@ typedef struct caa_counts {
 } caa_counts;
 
 /* Opens a machine at the beginning of a script, and closes the one that was open. CAA_REFUSED: at *line, counted from 1 (0: the script
- * as a whole), and `cause` has the number and the word of the cause, as "12 cycle", as far as there is room, and no 0 behind it.
- * CAA_NO_MEMORY: nothing is told of the script. At both, what was open still is. */
+ * as a whole), and `cause` has the number and the word of the cause, as "12 cycle", as far as there is room: 31 bytes are enough for any.
+ * No 0 is put behind it, so zero it before. CAA_NO_MEMORY: nothing is told of the script. At both, what was open still is. */
 uint32_t caa_open(caa *machine, const uint8_t *script, size_t length, uint32_t *line, uint8_t *cause, size_t room);
 
 /* Closes what is open, and gives its memory back. */
 void caa_close(caa *machine);
 
-/* Makes the entry that is next for a participant, or says what is to be done before, or why it has none. It answers step->what. */
+/* Makes the entry that is next for a participant, or says what is to be done before, or why it has none. It answers step->what:
+ * CAA_CLOSED, CAA_UNFIT (there is no such participant), or one of the six that are its alone. Ask in any order, and as often as you like. */
 uint32_t caa_next(caa *machine, uint32_t participant, caa_step *step);
 
-/* Says whether the put or restore that was asked for was done, and makes its entry. CAA_UNFIT: none was asked for. */
+/* Says whether the put or restore that was asked for was done, and makes its entry, whose number is what `entries` was before. CAA_UNFIT:
+ * none was asked for. */
 uint32_t caa_answer(caa *machine, bool done);
 
-/* Says that the work of this ticket is done, and makes its entry, in time in line with its rounds (some milliseconds at most).
- * CAA_UNFIT: a put isn't answered yet, or the participant isn't at this work any more. */
+/* Says that the work of this ticket is done, and makes its entry, whose number is what `entries` was before, in time in line with its
+ * rounds (some milliseconds at most). CAA_UNFIT: a put isn't answered yet, so say it again behind its answer, or the participant isn't at
+ * this work any more, as caa_next then says. */
 uint32_t caa_work_done(caa *machine, uint32_t participant, uint64_t ticket);
 
+/* CAA_CLOSED: *counts is as it was. */
 uint32_t caa_sizes(caa *machine, caa_counts *counts);
 
 /* The name of a participant or an object: its length, and as much of it as there is room for. 0: there is none of this number. */
 size_t caa_participant(caa *machine, uint32_t participant, uint8_t *name, size_t room);
 
-/* *first is the value before the first entry, *now that by the journal. */
+/* *first is the value before the first entry, to which the host brings the object before it asks for one, and *now that by the journal. */
 size_t caa_object(caa *machine, uint32_t object, int64_t *first, int64_t *now, uint8_t *name, size_t room);
 
 /* How a place ended, as enum caa_outcome_code. */
 uint32_t caa_outcome(caa *machine, uint32_t place);
 
 /* The line of an entry in the text of the journal, with its line feed: its *length, and as much of it as there is room for; 128 bytes
- * are enough for any. CAA_UNFIT: there is no such entry. A journal's text is "journal\n", these lines, and those of caa_rest. */
+ * are enough for any. CAA_UNFIT: there is no such entry. CAA_CLOSED: *length isn't set. A journal's text is "journal\n", these lines, and
+ * those of caa_rest. */
 uint32_t caa_line(caa *machine, uint64_t entry, uint8_t *line, size_t room, size_t *length);
 
 /* The same of the lines that stand behind those of the entries: one for each object, and then one for each place. */
