@@ -1,12 +1,11 @@
 // caa for C++17, over caa.h: a machine that is closed when it goes out of scope, and answers as values.
 //
 //     caa_host::Machine machine(script);
-//     while (!machine.counts().complete)
-//         for (std::uint32_t by = 0; by < machine.counts().participants; by++)
-//             if (auto step = machine.next(by); step.what == CAA_PUTS) machine.answer(write_register(step.object, step.value));
-//             else if (step.what == CAA_WORKS) machine.work_done(by, step.ticket);
+//     machine.play([&](const caa_step &put) { return write_register(put.object, put.value); },
+//                  [&](std::uint32_t participant, const caa_step &work) { return has_ended(participant, work); });
 //
-// What the host has to keep stands in caa.h. A machine is moved, never copied, and stays on its thread.
+// What the host has to keep stands in caa.h. A machine is moved, never copied, and stays on its thread. Where it was moved away, next and
+// counts throw std::logic_error, and other calls answer as caa.h says of a closed one.
 #ifndef CAA_HPP
 #define CAA_HPP
 #include "caa.h"
@@ -58,7 +57,7 @@ class Machine {
 
     caa_step next(std::uint32_t participant) {
         caa_step step{};
-        caa_next(&handle, participant, &step);
+        open_still(caa_next(&handle, participant, &step));
         return step;
     }
     // Whether a put was asked for.
@@ -68,8 +67,20 @@ class Machine {
 
     caa_counts counts() {
         caa_counts counts{};
-        caa_sizes(&handle, &counts);
+        open_still(caa_sizes(&handle, &counts));
         return counts;
+    }
+    // Asks all in turn until each is through, and hands each participant's step to take(participant, step), which answers puts and ends works.
+    template <typename Take> void each_step(Take take) {
+        for (auto size = counts(); !size.complete; size = counts())
+            for (std::uint32_t by = 0; by < size.participants; by++) take(by, next(by));
+    }
+    // Plays to the end. put(step) says whether it was done; work(participant, step) is asked again until it says that it has ended.
+    template <typename Put, typename Work> void play(Put put, Work work) {
+        each_step([&](std::uint32_t by, const caa_step &step) {
+            if (step.what == CAA_PUTS) answer(put(step));
+            else if (step.what == CAA_WORKS && work(by, step)) work_done(by, step.ticket);
+        });
     }
     std::string participant(std::uint32_t number) {
         std::uint8_t name[64];
@@ -94,6 +105,9 @@ class Machine {
     }
 
   private:
+    static void open_still(std::uint32_t code) {
+        if (code == CAA_CLOSED) throw std::logic_error("the machine was moved away");
+    }
     static std::string text(const std::uint8_t *bytes, std::size_t length) { return {reinterpret_cast<const char *>(bytes), length}; }
     template <typename Call> std::optional<std::string> found(Call call, std::uint64_t number) {
         std::uint8_t room[128];

@@ -140,7 +140,7 @@ class Machine:
         return getattr(Machine._library, "caa_" + name)(ctypes.byref(self._handle), *words)
 
     def close(self):
-        """Closes it, and gives its memory back. Each later call is answered as one of a closed machine."""
+        """Closes it, and gives its memory back. Later calls of next and counts raise ValueError; others answer as where there is nothing."""
         self._call("close")
 
     def __enter__(self):
@@ -153,10 +153,15 @@ class Machine:
         if getattr(self, "_handle", None) is not None:
             self.close()
 
+    @staticmethod
+    def _open_still(code):
+        if code == Code.CLOSED:
+            raise ValueError("the machine is closed")
+
     def next(self, participant):
         """What is next for a participant: a Step, whose `what` is a Code."""
         step = Step()
-        self._call("next", participant, ctypes.byref(step))
+        self._open_still(self._call("next", participant, ctypes.byref(step)))
         return step
 
     def answer(self, done):
@@ -170,7 +175,7 @@ class Machine:
     def counts(self):
         """How large the plan and the journal are."""
         counts = Counts()
-        self._call("sizes", ctypes.byref(counts))
+        self._open_still(self._call("sizes", ctypes.byref(counts)))
         return counts
 
     def participant(self, number):
@@ -214,15 +219,19 @@ class Machine:
                 number += 1
         return "".join(lines)
 
-    def play(self, put, work=lambda participant, step: True):
-        """Plays to the end, asking all in turn. `put(object, value, restores)` says whether it was done; `work(participant, step)` is asked
-        again until it says that the work has ended."""
+    def __iter__(self):
+        """Asks all in turn until each is through, and gives each participant with its Step: answer puts, and end works that are done."""
         counts = self.counts()
         while not counts.complete:
             for participant in range(counts.participants):
-                step = self.next(participant)
-                if step.what == Code.PUTS:
-                    self.answer(put(step.object, step.value, step.restores))
-                elif step.what == Code.WORKS and work(participant, step):
-                    self.work_done(participant, step.ticket)
+                yield participant, self.next(participant)
             counts = self.counts()
+
+    def play(self, put, work=lambda participant, step: True):
+        """Plays to the end. `put(object, value, restores)` says whether it was done; `work(participant, step)` is asked again until it says
+        that the work has ended."""
+        for participant, step in self:
+            if step.what == Code.PUTS:
+                self.answer(put(step.object, step.value, step.restores))
+            elif step.what == Code.WORKS and work(participant, step):
+                self.work_done(participant, step.ticket)

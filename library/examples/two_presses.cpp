@@ -38,8 +38,15 @@ class Cell {
             registers[object.name] = object.first;
         }
     }
-    void scan() {
-        for (std::uint32_t by = 0; by < counts.participants; by++) scan(by);
+    // What a participant does in a scan.
+    void scan(std::uint32_t by, const caa_step &step) {
+        if (step.what == CAA_WORKS) {
+            if (!drives[by].strike(step) || !machine.work_done(by, step.ticket)) return;
+        } else if (step.what == CAA_PUTS) {
+            registers[names[step.object]] = step.value;
+            machine.answer(true);
+        }
+        drives[by].stop();
     }
     // Whether each register has the value that the journal tells.
     bool agrees() {
@@ -53,17 +60,6 @@ class Cell {
     }
 
   private:
-    void scan(std::uint32_t by) {
-        auto step = machine.next(by);
-        if (step.what == CAA_WORKS) {
-            if (!drives[by].strike(step) || !machine.work_done(by, step.ticket)) return;
-        } else if (step.what == CAA_PUTS) {
-            registers[names[step.object]] = step.value;
-            machine.answer(true);
-        }
-        drives[by].stop();
-    }
-
     caa_host::Machine &machine;
     caa_counts counts;
     std::vector<Drive> drives;
@@ -83,7 +79,7 @@ int main(int words, char **word) {
     try {
         caa_host::Machine machine(script.str());
         Cell cell(machine);
-        while (!machine.counts().complete) cell.scan();
+        machine.each_step([&](std::uint32_t by, const caa_step &step) { cell.scan(by, step); });
         std::cout << machine.journal();
         cell.tell_outcomes(std::cerr);
         return cell.agrees() ? 0 : 9;
