@@ -70,7 +70,8 @@ class Machine {
         open_still(caa_sizes(&handle, &counts));
         return counts;
     }
-    // Asks all in turn until each is through, and hands each participant's step to take(participant, step), which answers puts and ends works.
+    // Asks all in turn until each is through. It hands each participant's step to take(participant, step), which answers puts and ends
+    // works.
     template <typename Take> void each_step(Take take) {
         for (auto size = counts(); !size.complete; size = counts())
             for (std::uint32_t by = 0; by < size.participants; by++) take(by, next(by));

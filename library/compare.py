@@ -140,6 +140,10 @@ def try_schedules(trial):
             trial.expect(f"{os.path.basename(script)} in the order of sim {one}", played_as_sim(script, one, caa_module) == wanted)
             plays += 1
     print(f"the same bytes as sim: {plays} journals")
+    script = os.path.join(CASES, "jam_and_slip")
+    with caa_module.Machine(text_of(script)) as machine:
+        machine.play(lambda object, value, restores: not restores)
+        trial.expect("play of caa.py", trial.is_legal(script, machine.journal().encode()))
 
 
 def try_abuse(trial, abuse, games):

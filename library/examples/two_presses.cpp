@@ -10,6 +10,9 @@
 
 namespace {
 
+// How places end, by the numbers of caa_outcome_code.
+constexpr const char *ends[] = {"not yet", "commit", "signal", "undone", "aborted", "failed"};
+
 // A machine of the cell, which is at one stroke at most.
 class Drive {
   public:
@@ -56,7 +59,7 @@ class Cell {
     }
     void tell_outcomes(std::ostream &out) {
         for (std::uint32_t place = 0; place < counts.places; place++)
-            if (auto outcome = machine.outcome(place); outcome > CAA_COMMIT) out << "place " << place << " ended: " << outcome << "\n";
+            if (auto outcome = machine.outcome(place); outcome > CAA_COMMIT) out << "place " << place << " ended: " << ends[outcome] << "\n";
     }
 
   private:
