@@ -16,7 +16,8 @@
  * Participants, objects and places are numbered from 0: the first two in the order of their lines in the script, places as in the journal.
  *
  * Every call may come in any order and with any numbers; what doesn't fit is answered so, and changes nothing. All memory is taken by
- * caa_open, and no call takes longer because the journal is long. docs/library.md tells what is proved, and what the host has to keep:
+ * caa_open, and no call takes longer because the journal is long. docs/library.md tells what is proved, what is measured alone, as this
+ * is, and what the host has to keep:
  *
  *   - a caa is all zero before its first call, and then only the library reads and writes it: it is never copied, but it
  *     may be moved, where what it was moved from is zero from then on or forgotten;

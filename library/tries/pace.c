@@ -35,7 +35,11 @@ static void end(void) {
 /* Plays to the end. */
 static void play(caa *machine, caa_counts *counts) {
     caa_step step;
-    for (caa_sizes(machine, counts); !counts->complete; caa_sizes(machine, counts))
+    for (;;) {
+        begin();
+        caa_sizes(machine, counts);
+        end();
+        if (counts->complete) return;
         for (uint32_t by = 0; by < counts->participants; by++) {
             begin();
             caa_next(machine, by, &step);
@@ -50,6 +54,34 @@ static void play(caa *machine, caa_counts *counts) {
                 end();
             }
         }
+    }
+}
+
+/* Asks for all that is told of a journal. */
+static void ask(caa *machine, const caa_counts *counts) {
+    static uint8_t text[128];
+    size_t length;
+    int64_t first, now;
+    for (uint64_t at = 0; at < counts->entries; at++) {
+        begin();
+        caa_line(machine, at, text, sizeof text, &length);
+        end();
+    }
+    for (uint64_t at = 0; at < (uint64_t)counts->objects + counts->places; at++) {
+        begin();
+        caa_rest(machine, at, text, sizeof text, &length);
+        end();
+    }
+    for (uint32_t at = 0; at < counts->objects; at++) {
+        begin();
+        caa_object(machine, at, &first, &now, text, sizeof text);
+        end();
+    }
+    for (uint32_t at = 0; at < counts->places; at++) {
+        begin();
+        caa_outcome(machine, at);
+        end();
+    }
 }
 
 /* The longest of these calls, and how long one takes on the average. */
@@ -68,11 +100,10 @@ static size_t bytes_taken(void) {
 }
 
 int main(int words, char **word) {
-    static uint8_t script[1 << 20], cause[32], text[128];
+    static uint8_t script[1 << 20], cause[32];
     caa machine = {0};
     caa_counts counts;
     uint32_t line;
-    size_t length;
     if (words < 3) return 2;
     FILE *from = fopen(word[1], "rb");
     if (from == NULL) return 2;
@@ -86,11 +117,7 @@ int main(int words, char **word) {
         calls = 0;
         play(&machine, &counts);
         played = calls;
-        for (uint64_t at = 0; at < counts.entries; at++) {
-            begin();
-            caa_line(&machine, at, text, sizeof text, &length);
-            end();
-        }
+        ask(&machine, &counts);
         caa_close(&machine);
         if (time == 0)
             printf("entries %llu of at most %llu, places %u, %llu calls, %.2f MB of memory", (unsigned long long)counts.entries,
@@ -99,7 +126,7 @@ int main(int words, char **word) {
     tell("first tenth", 0, played / 10);
     tell("last tenth", played - played / 10, played);
     tell("all", 0, played);
-    tell("caa_line", played, calls);
+    tell("asking", played, calls);
     puts("");
     return 0;
 }
